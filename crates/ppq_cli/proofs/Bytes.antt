@@ -1,6 +1,7 @@
 -- From a script that was read, or refused, to what comes of its bytes.
-use Rattle.std.proofs.Common.{◌≡◌, ℕ, List, [], Option, Some, None, refl, sym, ap, ◌∙◌, subst, inl, inr}
+use Rattle.std.proofs.Common.{◌≡◌, ℕ, List, [], Option, Some, None, refl, sym, ap, subst, arith, inl, inr}
 use Rattle.std.specs.Prelude.{Result, Err, IfErr, IsErrOf, IfSome, map}
+use Rattle.ppq_files.specs.Reading.{LibraryKeeps}
 use Rattle.ppq_words.specs.ppq_outside.Shown.{Shown}
 use Rattle.ppq_words.specs.ppq_outside.Told.{RepliesOnly, Rose}
 use Rattle.ppq_words.specs.ppq_outside.declared.library.Library.{Ghosts as LibraryShows}
@@ -17,39 +18,24 @@ use Rattle.ppq_engine.specs.Ends.{NoFault}
 use Rattle.ppq_engine.specs.Files.{IsReadInScript}
 use Rattle.ppq_engine.specs.Work.{work_of}
 use Rattle.ppq_engine.specs.declared.end.End.{End}
-use Rattle.ppq_engine.specs.declared.end.End.TheVariants.{Done, ReadFault, WriteFault, DeviceFault, NoFreeBlock, NoDevice}
+use Rattle.ppq_engine.specs.declared.end.End.TheVariants.{ReadFault, WriteFault, NoDevice}
 use Rattle.ppq_engine.specs.declared.end.Ended.{Ended}
 use Rattle.ppq_engine.proofs.Running.{takes_none}
 use Rattle.ppq_cli.specs.Device.{IsSurelyRun}
+use Rattle.ppq_cli.specs.Outside.{Faults, OutsideKept}
 use Rattle.ppq_cli.specs.Load.{check_end, CheckCounts}
-use Rattle.ppq_cli.specs.Replies.{Files, IsScript, IsRefused, RefusalOf, LibraryKeeps}
-use Rattle.ppq_cli.specs.RunWords.{OfBytes, WritesPart, refusal_of_bytes, IsAnswer}
-use Rattle.ppq_cli.specs.RunOver.{RunWrites, RunBlocks, RunEnds, RunCounts, RunFaults, RunsBytes}
+use Rattle.ppq_cli.specs.Replies.{Files, IsScript, IsRefused, RefusalOf}
+use Rattle.ppq_cli.specs.RunWords.{OfBytes, WritesPart, device_named, blocks_given, refusal_of_bytes, IsAnswer}
+use Rattle.ppq_cli.specs.RunOver.{RunWrites, RunEnds, RunsBytes}
 use Rattle.ppq_cli.specs.Transfers.{TransfersWithin}
 use Rattle.ppq_cli.specs.Types.{typed}
-use Rattle.ppq_cli.proofs.Blocks.{made_nothing}
-use Rattle.ppq_cli.proofs.Ends.{unread_not_run, no_blocks, refused_answer, refused_refusal, loaded_run, loaded_answer, loaded_refusal, of_commands}
+use Rattle.ppq_cli.proofs.Ends.{unread_not_run, refused_answer, refused_refusal, loaded_run, loaded_answer, loaded_refusal, of_commands}
 use Rattle.ppq_cli.proofs.Extent.{lengths_asked, commands_asked}
+use Rattle.ppq_cli.proofs.Outside.{blockless_outside, later_outside}
 use Rattle.ppq_cli.proofs.Given.{script_remembered}
 use Rattle.ppq_cli.proofs.Transfers.{no_slots}
-use Rattle.ppq_cli.proofs.RunOver.{same_count, of_other}
 
--- a refusal names no block, no device and no sink
-not_device : (fault : CheckFault) (number : ℕ) → check_end fault ≡ DeviceFault number → ⊥
-not_device (check.BadLine line) number is = cc
-not_device check.ReadFault number is = cc
-not_device check.Memory number is = cc
-
-not_done : (fault : CheckFault) → check_end fault ≡ Done → ⊥
-not_done (check.BadLine line) is = cc
-not_done check.ReadFault is = cc
-not_done check.Memory is = cc
-
-not_full : (fault : CheckFault) → check_end fault ≡ NoFreeBlock → ⊥
-not_full (check.BadLine line) is = cc
-not_full check.ReadFault is = cc
-not_full check.Memory is = cc
-
+-- a refusal names no device and no sink
 not_rack : (fault : CheckFault) → check_end fault ≡ NoDevice → ⊥
 not_rack (check.BadLine line) is = cc
 not_rack check.ReadFault is = cc
@@ -65,13 +51,10 @@ rose_by before now (check.BadLine line) rose is = cc
 rose_by before now check.ReadFault rose is = rose refl
 rose_by before now check.Memory rose is = cc
 
-counted : {T : Type 0} (before now : ℕ) (result : Result T CheckFault) (fault : CheckFault) → result ≡ Err fault → CheckCounts before now result → RunCounts ReadFault before now (check_end fault)
-counted {T} before now result fault is counts = record {
-  later = counts.later;
-  rose =
-      let P : Result T CheckFault → Type 0 = λ x. IsErrOf x check.ReadFault → Rose before now in
-      rose_by before now fault (λ e. (subst P is counts.read) (ap (λ (f : CheckFault). let x : Result T CheckFault = Err f in x) e));
-}
+counted : {T : Type 0} (before now : ℕ) (result : Result T CheckFault) (fault : CheckFault) → result ≡ Err fault → CheckCounts before now result → check_end fault ≡ ReadFault → Rose before now
+counted {T} before now result fault is counts =
+    let P : Result T CheckFault → Type 0 = λ x. IsErrOf x check.ReadFault → Rose before now in
+    rose_by before now fault (λ e. (subst P is counts.read) (ap (λ (f : CheckFault). let x : Result T CheckFault = Err f in x) e))
 
 -- of the ends of a refusal one alone names a fault
 check_quiet : (fault : CheckFault) → ¬ (check_end fault ≡ ReadFault) → NoFault (check_end fault)
@@ -99,7 +82,7 @@ module _ {R L K O S : Type 0} (words : Words R) (library : LibraryShows L) (rack
       let told = library.told old in
       let A : End → Type 0 = λ e. IfSome told (λ files. IsAnswer (refusal_of_bytes words files bytes r) e) in
       let Q : End → Type 0 = λ e. RefusalOf words told (library.replied new) r bytes e in
-      let F : End → Type 0 = λ e. RunFaults (library.faults old) (library.faults new) (rack.faults held) (rack.faults held) (sink.faults out) (sink.faults out) e in
+      let F : End → Type 0 = λ e. Faults Rose (library.faults old) (library.faults new) (rack.faults held) (rack.faults held) (sink.faults out) (sink.faults out) e in
       let not_run : IsSurelyRun ended.end → ⊥ = λ run. unread_not_run fault (subst IsSurelyRun is run) in
       record {
         ran = inl (record { maybe = not_run; same = refl });
@@ -108,24 +91,20 @@ module _ {R L K O S : Type 0} (words : Words R) (library : LibraryShows L) (rack
         transfers = inl (no_slots shown ended.blocks.items none);
         answer = subst A (sym is) (refused_answer words told (library.replied new) r bytes fault refused);
         refused = subst Q (sym is) (refused_refusal words told (library.replied new) r bytes fault refused);
-        failed = λ number e. absurd (not_device fault number (sym is ∙ e));
-        blocks = record {
-          made = made_nothing (λ s. (shown s).number) ended.blocks.items (rack.made held r.device) none;
-          are = no_blocks r.given.numbers.blocks ended.end (map shown ended.blocks.items) not_run (let P : List S → Type 0 = λ s. map shown s ≡ [] in subst P (sym none) refl);
-          unfailed = of_other ended.end (check_end fault) is (not_done fault) (not_full fault);
-          tells = λ t. t;
-        };
-        files = keeps.told;
-        remembers = keeps.remembers;
         asks = inl ((fault, is), lengths_asked (library.replied old) (library.replied new) r keeps.asks);
-        faults = subst F (sym is) (record {
-          library = counted (library.faults old) (library.faults new) result fault was counts;
-          library_stays = λ read written. count_stays (library.faults old) (library.faults new) result fault was counts read;
-          rack = same_count NoDevice (check_end fault) (rack.faults held) (not_rack fault);
-          rack_stays = λ unmade. refl;
-          sink = same_count WriteFault (check_end fault) (sink.faults out) (not_sink fault);
-          sink_stays = λ written. refl;
-        });
+        outside =
+            blockless_outside library rack sink shown device_named blocks_given Rose (Some r) old new held out ended none not_run keeps.told keeps.remembers
+            (subst F (sym is) (record {
+              read = counted (library.faults old) (library.faults new) result fault was counts;
+              write = λ e. absurd (not_sink fault e);
+              device = λ e. absurd (not_rack fault e);
+              library_later = counts.later;
+              library_stays = λ read written. count_stays (library.faults old) (library.faults new) result fault was counts read;
+              rack_later = omega arith;
+              rack_stays = λ unmade. refl;
+              sink_later = omega arith;
+              sink_stays = λ written. refl;
+            }));
       }
 
   -- a script that was run over a device
@@ -134,22 +113,20 @@ module _ {R L K O S : Type 0} (words : Words R) (library : LibraryShows L) (rack
       → IsScript words (library.told old) (library.replied mid) bytes r.given.numbers.workers script → LibraryKeeps library.told library.replied IsLength old mid
       → RepliesOnly (library.replied old) (library.replied mid) (IsKeptLength script) → library.faults mid ≡ library.faults old
       → RunWrites words (rack.tells old_rack) (library.told mid) (sink.told old_out) (sink.told new_out) r script (map shown ended.blocks.items) ended.end
-      → RunBlocks shown (rack.tells old_rack) (rack.tells new_rack) (rack.made old_rack r.device) (rack.made new_rack r.device) r.given.numbers.blocks ended
+      → OutsideKept Rose library rack sink shown (Some r) device_named blocks_given mid new old_rack new_rack old_out new_out ended
       → TransfersWithin (sizes_at words.WIDTH r) (work_of words (sizes_at words.WIDTH r) (command_list script)) (map shown ended.blocks.items)
-      → LibraryKeeps library.told library.replied (IsReadInScript script) mid new
-      → RunEnds words (library.told mid) (library.replied new) r script (map shown ended.blocks.items) ended.end
-      → RunFaults (library.faults mid) (library.faults new) (rack.faults old_rack) (rack.faults new_rack) (sink.faults old_out) (sink.faults new_out) ended.end
+      → RepliesOnly (library.replied mid) (library.replied new) (IsReadInScript script)
+      → RunEnds words (library.told mid) (library.replied new) r script ended.end
       → RunsBytes (typed words) library rack sink shown r bytes old new old_rack new_rack old_out new_out ended
-  run_bytes old mid new old_rack new_rack old_out new_out ended script is first asked same writes blocks few next ends faults =
+  run_bytes old mid new old_rack new_rack old_out new_out ended script is first asked same writes outside few next ends =
       let told = library.told old in
       let replied = library.replied new in
       let before = sink.told old_out in
       let now = sink.told new_out in
       let slots = map shown ended.blocks.items in
       let W : Option Files → Type 0 = λ t. RunWrites words (rack.tells old_rack) t before now r script slots ended.end in
-      let E : Option Files → Type 0 = λ t. RunEnds words t replied r script slots ended.end in
-      let F : ℕ → Type 0 = λ n. RunFaults n (library.faults new) (rack.faults old_rack) (rack.faults new_rack) (sink.faults old_out) (sink.faults new_out) ended.end in
-      let later : IsScript words told replied bytes r.given.numbers.workers script = script_remembered words told (library.replied mid) replied bytes r.given.numbers.workers script next.remembers is in
+      let E : Option Files → Type 0 = λ t. RunEnds words t replied r script ended.end in
+      let later : IsScript words told replied bytes r.given.numbers.workers script = script_remembered words told (library.replied mid) replied bytes r.given.numbers.workers script outside.remembers is in
       let wrote : W told = subst W first.told writes in
       let ended_so : E told = subst E first.told ends in
       record {
@@ -159,10 +136,6 @@ module _ {R L K O S : Type 0} (words : Words R) (library : LibraryShows L) (rack
         transfers = inr (script, (later, few));
         answer = loaded_answer words told replied r bytes script ended.end later ended_so.answer;
         refused = loaded_refusal words told replied r bytes script ended.end later ended_so.answer ended_so.changed;
-        failed = ended_so.failed;
-        blocks = blocks;
-        files = next.told ∙ first.told;
-        remembers = λ reply had. next.remembers reply (first.remembers reply had);
-        asks = inr (script, (later, commands_asked (library.replied old) (library.replied mid) replied r script asked next.asks));
-        faults = subst F same faults;
+        asks = inr (script, (later, commands_asked (library.replied old) (library.replied mid) replied r script asked next));
+        outside = later_outside library rack sink shown device_named blocks_given Rose (Some r) old mid new old_rack new_rack old_out new_out ended first.told first.remembers same outside;
       }

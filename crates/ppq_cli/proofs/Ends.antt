@@ -3,8 +3,11 @@ use Rattle.std.proofs.Common.{◌≡◌, ℕ, ◌<◌, ◌≤◌, List, [], leng
 use Rattle.std.specs.Prelude.{◌⊎◌, Bool, true, false, if◌then◌else◌, nat_lt, IfSome, MatchOption, map}
 use Rattle.std.proofs.lemmas.List.Sorted.{IsPermutation-refl}
 use Rattle.std.proofs.lemmas.Bool.{ltb-true, ltb-false, le-ltb}
+use Rattle.ppq_files.specs.Whole.{WholeFaultAfter}
+use Rattle.ppq_files.specs.declared.whole.WholeFault.{WholeFault}
+use Rattle.ppq_files.specs.declared.whole.WholeFault.TheVariants as whole
 use Rattle.ppq_words.specs.ppq_outside.Shown.{Shown, AllTell}
-use Rattle.ppq_words.specs.ppq_outside.Told.{Reply, bytes_or_none}
+use Rattle.ppq_words.specs.ppq_outside.Told.{Reply, Rose, bytes_or_none}
 use Rattle.ppq_words.specs.ppq_budget.Sizes.{Numbers, fixed_of}
 use Rattle.ppq_words.specs.ppq_script.Words.{Words}
 use Rattle.ppq_words.specs.ppq_script.declared.numbered.Numbered.{Numbered}
@@ -22,14 +25,13 @@ use Rattle.ppq_engine.specs.Refusal.{HasRoom, HasNoRoom}
 use Rattle.ppq_engine.specs.Output.{AreFilesOf, KeepsLengths, given_of}
 use Rattle.ppq_engine.specs.Running.{HasChanged}
 use Rattle.ppq_engine.specs.Outcome.{TakesBeforeFile, TakesBeforeLoad, FaultBeforeFile}
-use Rattle.ppq_engine.specs.Ends.{budget_refusal, BeganCommands, BeganOrRefused, NoFault}
+use Rattle.ppq_engine.specs.Ends.{Class, Refused, HasBegun, IsRefusal, class_of, budget_refusal, BeganCommands, BeganOrRefused, NoFault}
 use Rattle.ppq_engine.specs.declared.end.End.{End}
-use Rattle.ppq_engine.specs.declared.end.End.TheVariants.{Done, BadLine, Usage, ReadFault, WriteFault, DeviceFault, NoFreeBlock, BudgetTooSmall, Memory, FileChanged, NoDevice, NoScript, ScriptTooLong}
+use Rattle.ppq_engine.specs.declared.end.End.TheVariants.{Done, BadLine, ReadFault, WriteFault, DeviceFault, NoFreeBlock, BudgetTooSmall, Memory, FileChanged, NoDevice, NoScript, ScriptTooLong}
 use Rattle.ppq_engine.proofs.Lengths.{keeps_lengths}
-use Rattle.ppq_cli.specs.declared.load.LoadFault.{LoadFault}
-use Rattle.ppq_cli.specs.declared.load.LoadFault.TheVariants as load
 use Rattle.ppq_cli.specs.Load.{load_end, check_end, script_kinds}
-use Rattle.ppq_cli.specs.RunWords.{refusal_of_budget, refusal_of_bad, refusal_of_bytes, refusal_of_file, script_commands, script_given, IsTried, IsGivenUp, MayWrite, IsAnswer, IsTriedOrRefusal, About, Measure, OfBytes, OfFile, IsTooLarge, EndsWell}
+use Rattle.ppq_cli.specs.RunWords.{refusal_of_budget, refusal_of_bad, refusal_of_bytes, refusal_of_file, script_commands, script_given, IsTried, IsGivenUp, IsAnswer, IsTriedOrRefusal, About, Measure, OfBytes, OfFile, IsTooLarge, EndsWell}
+use Rattle.ppq_cli.specs.Outside.{MayWrite}
 use Rattle.ppq_cli.specs.RunOver.{RunWrites}
 use Rattle.ppq_cli.specs.Device.{IsSurelyRun, AreBlocks}
 use Rattle.ppq_cli.specs.Replies.{Files, need_of, IsScript, IsRefused, OfGood, RefusalOf, RunOf, WroteNothing, HasRunToFile, HasRunToLoad, FaultToFile}
@@ -45,6 +47,11 @@ ways_by true memory fixed need end below enough (inl is) = inl (below refl, is)
 ways_by true memory fixed need end below enough (inr memory_is) = inr (inr memory_is)
 ways_by false memory fixed need end below enough (inl tried) = inr (inl (enough refl, tried))
 ways_by false memory fixed need end below enough (inr memory_is) = inr (inr memory_is)
+
+-- a class of ends with which the commands were begun is none of refusals
+pub begun_unrefused : (class : Class) → HasBegun class → IsRefusal class → ⊥
+begun_unrefused Refused began refused = began
+begun_unrefused class began refused = refused
 
 -- a script that was run has a budget that is large enough
 reaches : (memory fixed need : ℕ) (end : End) → BeganCommands end → Ways memory fixed need end → fixed ≤ memory
@@ -72,19 +79,11 @@ module _ {R : Type 0} (words : Words R) (told : Option Files) (replied : Reply �
   enough end run answer = reaches (sizes_at words.WIDTH r).memory (fixed_of (sizes_at words.WIDTH r)) (need_of words r) end run (ways end answer)
 
   run_refuses : (end : End) → BeganCommands end → ((line said got : ℕ) → end ≡ FileChanged line said got → RefusalOf words told replied r bytes (FileChanged line said got)) → RefusalOf words told replied r bytes end
-  run_refuses Done run changed = tt
   run_refuses (BadLine line) run changed = absurd run
-  run_refuses Usage run changed = absurd run
-  run_refuses ReadFault run changed = tt
-  run_refuses WriteFault run changed = tt
-  run_refuses (DeviceFault number) run changed = tt
-  run_refuses NoFreeBlock run changed = tt
   run_refuses (BudgetTooSmall need) run changed = absurd run
-  run_refuses Memory run changed = tt
   run_refuses (FileChanged line said got) run changed = changed line said got refl
   run_refuses NoDevice run changed = absurd run
-  run_refuses NoScript run changed = absurd run
-  run_refuses ScriptTooLong run changed = absurd run
+  run_refuses end run changed = begun_unrefused (class_of end) run
 
   -- a script that was read is refused for its budget, its device, or a file that had changed
   pub loaded_refusal :
@@ -97,7 +96,7 @@ module _ {R : Type 0} (words : Words R) (told : Option Files) (replied : Reply �
         | inl (h, e) ↦ subst P (sym e) ((h, refl), good)
         | inr (inl (h, inl run)) ↦ run_refuses end run (λ line said got e. (h, (script, (is, changed line said got e))))
         | inr (inl (h, inr e)) ↦ subst P (sym e) (h, good)
-        | inr (inr e) ↦ subst P (sym e) tt
+        | inr (inr e) ↦ subst P (sym e) (λ refused. refused)
       ]
 
   -- how a script that was read was run
@@ -106,22 +105,17 @@ module _ {R : Type 0} (words : Words R) (told : Option Files) (replied : Reply �
       → IsScript words told replied bytes r.given.numbers.workers script → IsTriedOrRefusal (refusal_of_budget words r) end → RunWrites words tells told before now r script blocks end
       → WroteNothing before now end ⊎ RunOf words tells told replied r bytes before now blocks end
   loaded_run tells script before now blocks Done is answer w = inr (enough Done tt answer, (script, (is, w.done refl)))
-  loaded_run tells script before now blocks (BadLine line) is answer w = inl (idle before now (BadLine line) (λ run. run) (λ run. run) (λ e. cc) w.nothing)
-  loaded_run tells script before now blocks Usage is answer w = inl (idle before now Usage (λ run. run) (λ run. run) (λ e. cc) w.nothing)
   loaded_run tells script before now blocks ReadFault is answer w = inr (enough ReadFault tt answer, (script, (is, w.file)))
   loaded_run tells script before now blocks WriteFault is answer w = inr (enough WriteFault tt answer, (script, (is, w.part)))
   loaded_run tells script before now blocks (DeviceFault number) is answer w = inr (enough (DeviceFault number) tt answer, (script, (is, w.part)))
   loaded_run tells script before now blocks NoFreeBlock is answer w = inr (enough NoFreeBlock tt answer, (script, (is, w.full refl)))
-  loaded_run tells script before now blocks (BudgetTooSmall need) is answer w = inl (idle before now (BudgetTooSmall need) (λ run. run) (λ run. run) (λ e. cc) w.nothing)
   loaded_run tells script before now blocks Memory is answer w =
       elim (w.memory refl) as (λ _. WroteNothing before now Memory ⊎ OfGood words told replied r bytes (HasRunToLoad words r.form tells told before now)) [
         | inl same ↦ inl (record { maybe = λ run. run; same = same })
         | inr ran ↦ inr (script, (is, ran))
       ]
   loaded_run tells script before now blocks (FileChanged line said got) is answer w = inr (enough (FileChanged line said got) tt answer, (script, (is, w.file)))
-  loaded_run tells script before now blocks NoDevice is answer w = inl (idle before now NoDevice (λ run. run) (λ run. run) (λ e. cc) w.nothing)
-  loaded_run tells script before now blocks NoScript is answer w = inl (idle before now NoScript (λ run. run) (λ run. run) (λ e. cc) w.nothing)
-  loaded_run tells script before now blocks ScriptTooLong is answer w = inl (idle before now ScriptTooLong (λ run. run) (λ run. run) (λ e. cc) w.nothing)
+  loaded_run tells script before now blocks end is answer w = inl (idle before now end (λ run. run) (λ run. run) (λ e. cc) w.nothing)
 
 -- the answer for a script that was read
 pub loaded_answer :
@@ -148,8 +142,8 @@ pub refused_refusal :
     {R : Type 0} (words : Words R) (told : Option Files) (replied : Reply → Type 0) (r : Arguments) (bytes : List ℕ) (fault : CheckFault)
     → IsRefused words told replied bytes r.given.numbers.workers fault → RefusalOf words told replied r bytes (check_end fault)
 refused_refusal words told replied r bytes (check.BadLine line) refused = refused.replies
-refused_refusal words told replied r bytes check.ReadFault refused = tt
-refused_refusal words told replied r bytes check.Memory refused = tt
+refused_refusal words told replied r bytes check.ReadFault refused = λ other. other
+refused_refusal words told replied r bytes check.Memory refused = λ other. other
 
 -- the output of the commands before one that reads a file, where blocks tell
 to_file : {R : Type 0} (words : Words R) (form : Form) (tells : Type 0) (told : Option Files) (script : Reading R) (first : List Shown) (before now : Option (List ℕ)) → (tells → AllTell first)
@@ -165,19 +159,9 @@ ran_to_load words form tells told script first before now blocks (inr ran) = inr
 -- where a file could not be read, or had changed, by the end of a run
 pub fault_to_file : {R : Type 0} (words : Words R) (form : Form) (tells : Type 0) (told : Option Files) (script : Reading R) (first : List Shown) (before now : Option (List ℕ)) (end : End) → (tells → AllTell first)
     → FaultBeforeFile words form told script first before now end → FaultToFile words form tells told before now script end
-fault_to_file words form tells told script first before now Done blocks ran = tt
-fault_to_file words form tells told script first before now (BadLine line) blocks ran = tt
-fault_to_file words form tells told script first before now Usage blocks ran = tt
 fault_to_file words form tells told script first before now ReadFault blocks ran = to_file words form tells told script first before now blocks ran
-fault_to_file words form tells told script first before now WriteFault blocks ran = tt
-fault_to_file words form tells told script first before now (DeviceFault number) blocks ran = tt
-fault_to_file words form tells told script first before now NoFreeBlock blocks ran = tt
-fault_to_file words form tells told script first before now (BudgetTooSmall need) blocks ran = tt
-fault_to_file words form tells told script first before now Memory blocks ran = tt
 fault_to_file words form tells told script first before now (FileChanged line said got) blocks ran = to_file words form tells told script first before now blocks ran
-fault_to_file words form tells told script first before now NoDevice blocks ran = tt
-fault_to_file words form tells told script first before now NoScript blocks ran = tt
-fault_to_file words form tells told script first before now ScriptTooLong blocks ran = tt
+fault_to_file words form tells told script first before now end blocks ran = tt
 
 nothing_by : (X : Type 0) (small : Bool) (need : ℕ) (end : End) → MatchOption (if small then Some (BudgetTooSmall need) else None) (BeganCommands end) (λ e. end ≡ e) ⊎ (end ≡ Memory) → ((n : ℕ) → end ≡ BudgetTooSmall n → X) → MayWrite end ⊎ X
 nothing_by X true need end (inl is) nothing = inr (nothing need is)
@@ -195,18 +179,22 @@ unread_not_run (check.BadLine line) run = run
 unread_not_run check.ReadFault run = run
 unread_not_run check.Memory run = run
 
--- of the ends of a script that was not loaded, one alone names a fault
-load_quiet : (fault : LoadFault) → ¬ (load_end fault ≡ ReadFault) → NoFault (load_end fault)
-load_quiet load.ReadFault read = absurd (read refl)
-load_quiet load.Memory read = tt
-load_quiet load.NoScript read = tt
-load_quiet load.ScriptTooLong read = tt
-load_quiet (load.FileChanged said got) read = tt
+-- the library's count rose where a script was not loaded since a read failed, and else stayed
+pub unloaded_rose : (before now : ℕ) (fault : WholeFault) (end : End) → end ≡ load_end fault → WholeFaultAfter before now fault → end ≡ ReadFault → Rose before now
+unloaded_rose before now whole.Failed end is counts read = counts
+unloaded_rose before now whole.Memory end is counts read = let other : Memory ≡ ReadFault = sym is ∙ read in cc
+unloaded_rose before now whole.Absent end is counts read = let other : NoScript ≡ ReadFault = sym is ∙ read in cc
+unloaded_rose before now whole.TooLong end is counts read = let other : ScriptTooLong ≡ ReadFault = sym is ∙ read in cc
+unloaded_rose before now (whole.Ended said got) end is counts read = let other : FileChanged 0 said got ≡ ReadFault = sym is ∙ read in cc
 
-pub unloaded_stays : (before now : ℕ) (fault : LoadFault) (end : End) → end ≡ load_end fault → (NoFault (load_end fault) → now ≡ before) → ¬ (end ≡ ReadFault) → now ≡ before
-unloaded_stays before now fault end is unless read = unless (load_quiet fault (λ e. read (is ∙ e)))
+pub unloaded_stays : (before now : ℕ) (fault : WholeFault) (end : End) → end ≡ load_end fault → WholeFaultAfter before now fault → ¬ (end ≡ ReadFault) → now ≡ before
+unloaded_stays before now whole.Failed end is counts read = absurd (read is)
+unloaded_stays before now whole.Memory end is counts read = counts
+unloaded_stays before now whole.Absent end is counts read = counts
+unloaded_stays before now whole.TooLong end is counts read = counts
+unloaded_stays before now (whole.Ended said got) end is counts read = counts
 
--- and has no blocks
+-- a script that was not run has no blocks
 pub no_blocks : (most : ℕ) (end : End) (slots : List Shown) → (IsSurelyRun end → ⊥) → slots ≡ [] → AreBlocks most end slots
 no_blocks most end slots not_run none =
     let P : List Shown → Type 0 = λ s. AreBlocks most end s in
@@ -252,31 +240,22 @@ answer_of_bytes (Some files) r bytes end short is answer =
     let P : Option End → Type 0 = λ e. IsAnswer e end in
     subst P (sym same) answer
 
-untried : (end : End) → (BeganCommands end → ⊥) → (end ≡ NoDevice → ⊥) → (end ≡ Memory → ⊥) → (end ≡ ReadFault → ⊥) → IsTried end ⊎ IsGivenUp end → ⊥
-untried end run device memory read (inl (inl h)) = run h
-untried end run device memory read (inl (inr h)) = device h
-untried end run device memory read (inr (inl h)) = memory h
-untried end run device memory read (inr (inr h)) = read h
-
 -- where the end names no fault and there is room, a script without a refusal is done, or memory was wanting
 completed :
     (files : Files) (sizes : Numbers) (limited : Bool) (load : ℕ) (end : End) → IsTried end ⊎ IsGivenUp end → ((line said got : ℕ) → end ≡ FileChanged line said got → Some files ≡ None)
     → (end ≡ NoFreeBlock → HasNoRoom sizes limited load) → NoFault end → HasRoom sizes limited load → (end ≡ Done) ⊎ (end ≡ Memory)
-completed files sizes limited load Done tried changed above fault room = inl refl
-completed files sizes limited load (BadLine line) tried changed above fault room = absurd (untried (BadLine line) (λ h. h) (λ e. cc) (λ e. cc) (λ e. cc) tried)
-completed files sizes limited load Usage tried changed above fault room = absurd (untried Usage (λ h. h) (λ e. cc) (λ e. cc) (λ e. cc) tried)
-completed files sizes limited load ReadFault tried changed above fault room = absurd fault
-completed files sizes limited load WriteFault tried changed above fault room = absurd fault
-completed files sizes limited load (DeviceFault number) tried changed above fault room = absurd fault
-completed files sizes limited load NoFreeBlock tried changed above fault room =
+completed files sizes limited load end (inr (inl memory)) changed above fault room = inr memory
+completed files sizes limited load end (inr (inr read)) changed above fault room = absurd (subst NoFault read fault)
+completed files sizes limited load end (inl (inr unmade)) changed above fault room = absurd (subst NoFault unmade fault)
+completed files sizes limited load Done (inl (inl began)) changed above fault room = inl refl
+completed files sizes limited load NoFreeBlock (inl (inl began)) changed above fault room =
     let much = above refl in
     elim room as (λ _. (NoFreeBlock ≡ Done) ⊎ (NoFreeBlock ≡ Memory)) [ inl (unlimited, heap) ↦ absurd (omega (arith, much.0 unlimited, heap)) | inr device ↦ absurd (omega (arith, much.1, device)) ]
-completed files sizes limited load (BudgetTooSmall need) tried changed above fault room = absurd (untried (BudgetTooSmall need) (λ h. h) (λ e. cc) (λ e. cc) (λ e. cc) tried)
-completed files sizes limited load Memory tried changed above fault room = inr refl
-completed files sizes limited load (FileChanged line said got) tried changed above fault room = let e = changed line said got refl in cc
-completed files sizes limited load NoDevice tried changed above fault room = absurd fault
-completed files sizes limited load NoScript tried changed above fault room = absurd (untried NoScript (λ h. h) (λ e. cc) (λ e. cc) (λ e. cc) tried)
-completed files sizes limited load ScriptTooLong tried changed above fault room = absurd (untried ScriptTooLong (λ h. h) (λ e. cc) (λ e. cc) (λ e. cc) tried)
+completed files sizes limited load (FileChanged line said got) (inl (inl began)) changed above fault room = let e = changed line said got refl in cc
+completed files sizes limited load ReadFault (inl (inl began)) changed above fault room = absurd fault
+completed files sizes limited load WriteFault (inl (inl began)) changed above fault room = absurd fault
+completed files sizes limited load (DeviceFault number) (inl (inl began)) changed above fault room = absurd fault
+completed files sizes limited load end (inl (inl began)) changed above fault room = absurd began
 
 file_completed :
     (files : Files) (file : Option (List ℕ)) (r : Arguments) (measure : Measure) (end : End)

@@ -1,7 +1,10 @@
 -- From what comes of a script's bytes to what comes of the words that name it.
-use Rattle.std.proofs.Common.{◌≡◌, ℕ, ◌<◌, ◌^◌, List, Option, Some, None, sym, ◌∙◌, subst, arith, inl, inr}
+use Rattle.std.proofs.Common.{◌≡◌, ℕ, ◌<◌, ◌^◌, List, Option, Some, None, sym, ◌∙◌, subst, inl, inr}
 use Rattle.std.specs.Prelude.{◌⊎◌, IfSome, map, String}
 use Rattle.std.specs.declared.alloc.Global.{Global}
+use Rattle.ppq_files.specs.Reading.{IsOn, LibraryKeeps}
+use Rattle.ppq_files.specs.Whole.{IsLoadedAs}
+use Rattle.ppq_files.proofs.Given.{loaded_remembered}
 use Rattle.ppq_words.specs.ppq_outside.Shown.{Shown}
 use Rattle.ppq_words.specs.ppq_outside.Told.{Rose}
 use Rattle.ppq_words.specs.ppq_outside.declared.library.Library.{Ghosts as LibraryShows}
@@ -15,23 +18,19 @@ use Rattle.ppq_engine.specs.declared.end.End.{End}
 use Rattle.ppq_engine.specs.declared.end.End.TheVariants.{Done, Usage, NoFreeBlock, FileChanged}
 use Rattle.ppq_engine.specs.declared.end.Ended.{Ended}
 use Rattle.ppq_cli.specs.Device.{IsSurelyRun}
-use Rattle.ppq_cli.specs.Replies.{Files, IsLoadedAs, OfRun, RefusalOf, RunOf, RunIsRight, TransfersOf, WroteNothing, HasRunWhole, HasRunFull, LibraryKeeps, IsOn, AsksOf}
-use Rattle.ppq_cli.specs.RunWords.{reading, About, Measure, OfWords, OfBytes, OfFile, WritesAll, WritesPart, WritesRoom, UsesDevice, load_by, crest_by, most_by, least_by, refusal_of, refusal_of_bytes, refusal_of_file, IsAnswer, IsTooLarge, Completes, RunsWords}
+use Rattle.ppq_cli.specs.Replies.{Files, OfRun, RefusalOf, RunOf, RunIsRight, TransfersOf, WroteNothing, HasRunWhole, HasRunFull, AsksOf}
+use Rattle.ppq_cli.specs.RunWords.{reading, device_named, blocks_given, About, Measure, OfWords, OfBytes, OfFile, WritesAll, WritesPart, WritesRoom, UsesDevice, load_by, crest_by, most_by, least_by, refusal_of, refusal_of_bytes, refusal_of_file, IsAnswer, IsTooLarge, Completes, RunsWords}
 use Rattle.ppq_cli.specs.RunOver.{RunsBytes}
 use Rattle.ppq_cli.specs.Types.{type_of}
 use Rattle.ppq_cli.proofs.Ends.{of_commands, of_bytes, answer_of_bytes, named_completed}
 use Rattle.ppq_cli.proofs.Extent.{files_asked}
-use Rattle.ppq_cli.proofs.Given.{loaded_remembered}
+use Rattle.ppq_cli.proofs.Outside.{later_outside, named_outside}
 use Rattle.ppq_cli.proofs.Transfers as transfers
-
--- a count that is far from its last value and rose is higher
-rose_above : (before now : ℕ) → before < 2 ^ 63 → Rose before now → before < now
-rose_above before now small rose = omega (arith, small, rose)
 
 module _
     {L K O S : Type 0} (library : LibraryShows L) (rack : RackShows K S) (sink : SinkShows O) (shown : S → Shown) (words : List (String Global)) (r : Reading) (named : reading words ≡ Some r)
     (old mid new : L) (old_rack new_rack : K) (old_out new_out : O) (ended : Ended S) (bytes : List ℕ)
-    (loaded : IsLoadedAs (library.told old) (library.replied mid) r.script bytes) (kept : LibraryKeeps library.told library.replied (IsOn (library.replied mid) r.script) old mid)
+    (loaded : IsLoadedAs (library.told old) (library.replied mid) r.script 1048576 bytes) (kept : LibraryKeeps library.told library.replied (IsOn (library.replied mid) r.script) old mid)
     (same : library.faults mid ≡ library.faults old) (e : RunsBytes (type_of bytes) library rack sink shown r bytes mid new old_rack new_rack old_out new_out ended) where
   of_words : (P : Reading → Type 0) → P r → OfWords words P
   of_words P holds = let Q : Option Reading → Type 0 = λ o. IfSome o P in subst Q (sym named) holds
@@ -91,7 +90,7 @@ module _
       changed.1.1.1.untold
 
   not_usage : ended.end ≡ Usage → ⊥
-  not_usage is = let P : End → Type 0 = λ x. RefusalOf (type_of bytes).words (library.told old) (library.replied new) r bytes x in subst P is refusal
+  not_usage is = let P : End → Type 0 = λ x. RefusalOf (type_of bytes).words (library.told old) (library.replied new) r bytes x in (subst P is refusal) tt
 
   answer : IfSome (library.told old) (λ files. IsAnswer (refusal_of_file files (files r.script) r) ended.end)
   answer =
@@ -103,15 +102,16 @@ module _
 
   pub of_loaded : library.faults old < 2 ^ 63 → rack.faults old_rack < 2 ^ 63 → sink.faults old_out < 2 ^ 63 → RunsWords library rack sink shown words old new old_rack new_rack old_out new_out ended
   of_loaded quiet_library quiet_rack quiet_sink =
-      let now_loaded : IsLoadedAs (library.told old) (library.replied new) r.script bytes = loaded_remembered (library.told old) (library.replied mid) (library.replied new) r.script bytes e.remembers loaded in
+      let now_loaded : IsLoadedAs (library.told old) (library.replied new) r.script 1048576 bytes = loaded_remembered (library.told old) (library.replied mid) (library.replied new) r.script 1048576 bytes e.outside.remembers loaded in
       let no : reading words ≡ None → ⊥ = λ is. let other : Some r ≡ None = sym named ∙ is in cc in
-      let before : library.faults mid < 2 ^ 63 = omega (arith, same, quiet_library) in
       record {
-        done = λ is t. of_words _ (whole_file (WritesAll sink.told old_out new_out) is (λ script w. w.took t));
-        part = λ t. of_words _ (of_bytes (library.told old) r bytes (WritesPart sink.told old_out new_out) loaded.loaded
-            (let P : Option Files → Type 0 = λ o. OfBytes o (type_of bytes) r bytes (WritesPart sink.told old_out new_out) in subst P kept.told (e.part t)));
+        written = record {
+          done = λ is t. of_words _ (whole_file (WritesAll sink.told old_out new_out) is (λ script w. w.took t));
+          part = λ t. of_words _ (of_bytes (library.told old) r bytes (WritesPart sink.told old_out new_out) loaded.loaded
+              (let P : Option Files → Type 0 = λ o. OfBytes o (type_of bytes) r bytes (WritesPart sink.told old_out new_out) in subst P kept.told (e.part t)));
+          nothing = e.nothing;
+        };
         room = λ is t. of_words _ (full_file (WritesRoom sink.told old_out new_out) is (λ script w. w.within t));
-        nothing = e.nothing;
         ran = of_words _ (elim ran as (λ _. RunIsRight (rack.tells old_rack) (library.told old) (library.replied new) r (sink.told old_out) (sink.told new_out) (map shown ended.blocks.items) ended.end) [
           | inl wrote ↦ inl wrote
           | inr was ↦ inr (bytes, (now_loaded, was))
@@ -120,32 +120,21 @@ module _
         used_any = λ is. of_words _ (whole_file (UsesDevice least_by shown ended) is (λ script w files are. w.least));
         transfers = of_words _ (transfers.of_file shown ended (library.told old) (library.replied new) r bytes loaded.loaded few);
         transfers_any = of_words _ (inr (bytes, (now_loaded, few)));
-        made = of_words _ e.blocks.made;
-        blocks = of_words _ e.blocks.are;
-        unfailed = e.blocks.unfailed;
-        none = λ is. absurd (no is);
-        unasked = λ is. absurd (no is);
-        rack_tells = e.blocks.tells;
-        files = e.files ∙ kept.told;
-        remembers = λ reply had. e.remembers reply (kept.remembers reply had);
-        reads = of_words _ (inr (bytes, (now_loaded, files_asked (type_of bytes).words (library.told old) (library.replied old) (library.replied mid) (library.replied new) r bytes ended.end e.remembers kept.asks asks)));
-        usage = λ is. absurd (not_usage is);
-        no_reading = λ is. absurd (no is);
-        early = λ is. absurd (no is);
+        reads = of_words _ (inr (bytes, (now_loaded, files_asked (type_of bytes).words (library.told old) (library.replied old) (library.replied mid) (library.replied new) r bytes ended.end e.outside.remembers kept.asks asks)));
+        outside =
+            named_outside library rack sink shown device_named blocks_given (reading words) r old new old_rack new_rack old_out new_out ended named quiet_library quiet_rack quiet_sink
+            (later_outside library rack sink shown device_named blocks_given Rose (Some r) old mid new old_rack new_rack old_out new_out ended kept.told kept.remembers same e.outside);
+        unreadable = record {
+          usage = λ is. absurd (not_usage is);
+          no_reading = λ is. absurd (no is);
+          early = λ is. absurd (no is);
+          none = λ is. absurd (no is);
+          unasked = λ is. absurd (no is);
+        };
         answer = let P : Option Reading → Type 0 = λ o. IfSome (library.told old) (λ files. IsAnswer (refusal_of o files) ended.end) in subst P (sym named) answer;
         refused = of_words _ (inr (bytes, (now_loaded, refusal)));
-        read = λ is. let more : library.faults mid < library.faults new = rose_above (library.faults mid) (library.faults new) before (e.faults.library.rose is) in omega (arith, same, more);
-        write = λ is. rose_above (sink.faults old_out) (sink.faults new_out) quiet_sink (e.faults.sink.rose is);
-        device = λ is. rose_above (rack.faults old_rack) (rack.faults new_rack) quiet_rack (e.faults.rack.rose is);
-        failed = e.failed;
         above = λ is t. of_words _ (full_file (IsTooLarge load_by) is (λ script w. w.above t));
         above_any = λ is. of_words _ (full_file (IsTooLarge most_by) is (λ script w files are. w.above_any));
-        library_later = omega (arith, same, e.faults.library.later);
-        library_stays = λ read written. e.faults.library_stays read written ∙ same;
-        rack_later = e.faults.rack.later;
-        rack_stays = e.faults.rack_stays;
-        sink_later = e.faults.sink.later;
-        sink_stays = e.faults.sink_stays;
         complete = λ t fault. completed load_by (λ is. full_file (IsTooLarge load_by) is (λ script w. w.above t)) fault;
         complete_any = λ fault. completed most_by (λ is. full_file (IsTooLarge most_by) is (λ script w files are. w.above_any)) fault;
       }

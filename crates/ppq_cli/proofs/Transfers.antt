@@ -15,11 +15,11 @@ use Rattle.ppq_engine.specs.ppq_queue.Holding.{IsNewSlot}
 use Rattle.ppq_engine.specs.Work.{TransfersFew, work_of}
 use Rattle.ppq_engine.specs.declared.end.Ended.{Ended}
 use Rattle.ppq_cli.specs.Device.{AreNew}
-use Rattle.ppq_cli.specs.Load.{IsLoaded}
+use Rattle.ppq_files.specs.Whole.{IsLoaded}
 use Rattle.ppq_cli.specs.Replies.{Files, TransfersOf}
-use Rattle.ppq_cli.specs.RunWords.{reading, OfFile, OfScript, TransfersBounded, AreTransfersRight}
+use Rattle.ppq_cli.specs.RunWords.{reading, About, OfFile, OfScript, TransfersBounded, AreTransfersRight}
 use Rattle.ppq_cli.specs.Transfers.{TransfersWithin, AreUntouched}
-use Rattle.ppq_cli.specs.Types.{type_of}
+use Rattle.ppq_cli.specs.Types.{RecordType, type_of}
 use Rattle.ppq_cli.proofs.Ends.{of_commands, of_bytes}
 
 -- new blocks, and none
@@ -53,6 +53,12 @@ few_any words commands sizes slots untouched =
 pub of_any : {A : Type 0} (o : Option A) (P : A → Type 0) → ((a : A) → P a) → IfSome o P
 of_any None P holds = tt
 of_any (Some a) P holds = holds a
+
+-- what holds of every script holds of the one that the words name
+pub of_every :
+    {L : Type 0} (told : L → Option Files) (library : L) (words : List (String Global)) (P : About) → ((type : RecordType) (r : Arguments) (given : ℕ → List type.R) (commands : List (Command type.R)) → P type r given commands)
+    → OfScript told library words P
+of_every told library words P holds = of_any (reading words) _ (λ r. of_any (told library) _ (λ files. of_any (files r.script) _ (λ bytes. holds (type_of bytes) r _ _)))
 
 any_file : {S : Type 0} (shown : S → Shown) (ended : Ended S) (told : Option Files) (r : Arguments) → AreUntouched (map shown ended.blocks.items) → OfFile told r (TransfersBounded shown ended)
 any_file shown ended told r untouched =

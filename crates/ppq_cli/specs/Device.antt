@@ -1,5 +1,5 @@
 -- The blocks of a device.
-use Rattle.std.specs.Prelude.{◌≡◌, ◌≤◌, ◌⊎◌, ⊤, ℕ, List, length, map, All, Vec, Result, Ok, Err, OnOk, IfErr}
+use Rattle.std.specs.Prelude.{◌≡◌, ◌≤◌, ◌⊎◌, ℕ, List, length, map, All, Vec, Result, Ok, Err, OnOk, IfErr}
 use Rattle.std.specs.List.{range_with_len}
 use Rattle.std.specs.List.Sorted.{IsPermutation}
 use Rattle.std.specs.declared.alloc.Global.{Global}
@@ -8,7 +8,7 @@ use Rattle.ppq_words.specs.ppq_outside.declared.fault.OutsideFault.TheVariants.{
 use Rattle.ppq_words.specs.ppq_outside.Told.{Rose}
 use Rattle.ppq_words.specs.ppq_outside.Shown.{Shown, AllTell}
 use Rattle.ppq_engine.specs.ppq_queue.Holding.{IsNewSlot}
-use Rattle.ppq_engine.specs.Ends.{BeganCommands}
+use Rattle.ppq_engine.specs.Ends.{class_of, HasSurelyRun, IsRefusal, BeganCommands}
 use Rattle.ppq_engine.specs.declared.end.End.{End}
 use Rattle.ppq_engine.specs.declared.end.End.TheVariants as end
 
@@ -46,35 +46,11 @@ make_end Memory = end.Memory
 
 -- the script was run, whatever the files: the other ends of a run come also where the script could not be loaded
 abbrev pub IsSurelyRun : End → Type 0
-IsSurelyRun end.Done = ⊤
-IsSurelyRun (end.BadLine line) = ⊥
-IsSurelyRun end.Usage = ⊥
-IsSurelyRun end.ReadFault = ⊥
-IsSurelyRun end.WriteFault = ⊤
-IsSurelyRun (end.DeviceFault number) = ⊤
-IsSurelyRun end.NoFreeBlock = ⊤
-IsSurelyRun (end.BudgetTooSmall need) = ⊥
-IsSurelyRun end.Memory = ⊥
-IsSurelyRun (end.FileChanged line said got) = ⊥
-IsSurelyRun end.NoDevice = ⊥
-IsSurelyRun end.NoScript = ⊥
-IsSurelyRun end.ScriptTooLong = ⊥
+IsSurelyRun end = HasSurelyRun (class_of end)
 
 -- the arguments, the script or the budget were refused: the end comes before a block is made
 abbrev pub ComesBeforeBlocks : End → Type 0
-ComesBeforeBlocks end.Done = ⊥
-ComesBeforeBlocks (end.BadLine line) = ⊤
-ComesBeforeBlocks end.Usage = ⊤
-ComesBeforeBlocks end.ReadFault = ⊥
-ComesBeforeBlocks end.WriteFault = ⊥
-ComesBeforeBlocks (end.DeviceFault number) = ⊥
-ComesBeforeBlocks end.NoFreeBlock = ⊥
-ComesBeforeBlocks (end.BudgetTooSmall need) = ⊤
-ComesBeforeBlocks end.Memory = ⊥
-ComesBeforeBlocks (end.FileChanged line said got) = ⊥
-ComesBeforeBlocks end.NoDevice = ⊥
-ComesBeforeBlocks end.NoScript = ⊤
-ComesBeforeBlocks end.ScriptTooLong = ⊤
+ComesBeforeBlocks end = IsRefusal (class_of end)
 
 -- the blocks that come back with an end, of a device that has so many: their numbers are those from 0 on, each once; all of them
 -- where the script was run; none where it was refused

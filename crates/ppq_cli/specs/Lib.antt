@@ -1,5 +1,7 @@
+pub mod AllWords
 pub mod Device
 pub mod Load
+pub mod Outside
 pub mod Replies
 pub mod Report
 pub mod RunOver

@@ -1,8 +1,11 @@
 -- What a library replied of a file, and how a run ends for it. It is said of every library, also of one that does not tell.
-use Rattle.std.specs.Prelude.{◌≡◌, ◌⊎◌, ℕ, ◌+◌, ◌<◌, ◌≤◌, List, [], ◌∷◌, length, take, slice_get, Option, Some, None, IfSome, IsTrue, ⊤}
-use Rattle.std.specs.List.{AllZip, concat}
+use Rattle.std.specs.Prelude.{◌≡◌, ◌⊎◌, ℕ, ◌<◌, ◌≤◌, List, take, slice_get, Option, Some, None, IfSome, IsTrue, ⊤}
+use Rattle.std.specs.List.{AllZip}
 use Rattle.ppq_words.specs.ppq_outside.Shown.{Shown}
-use Rattle.ppq_words.specs.ppq_outside.Told.{Reply, OfLength, OfRead, Remembers, RepliesOnly, TakesAll, TakesPart}
+use Rattle.ppq_words.specs.ppq_outside.Told.{Reply, RepliesOnly, TakesAll, TakesPart}
+use Rattle.ppq_files.specs.Reading.{IsOn}
+use Rattle.ppq_files.specs.Whole.{IsLoadedAs, WholeRefusalIsRight}
+use Rattle.ppq_files.specs.declared.whole.WholeFault.{WholeFault}
 use Rattle.ppq_words.specs.ppq_budget.Sizes.{Numbers, fixed_of}
 use Rattle.ppq_words.specs.ppq_script.Words.{Words}
 use Rattle.ppq_words.specs.ppq_script.declared.command.Command.{Command}
@@ -15,17 +18,17 @@ use Rattle.ppq_words.specs.ppq_script.declared.check.CheckFault.TheVariants as c
 use Rattle.ppq_words.specs.ppq_script.declared.form.Form.{Form}
 use Rattle.ppq_words.specs.ppq_script.Reading.{Reading, command_list}
 use Rattle.ppq_words.specs.Reading.{Reading as Arguments, in_unit, sizes_at}
+use Rattle.ppq_engine.specs.Ends.{Class, Finished, Refused, Unmade, Unread, Broken, Shrunk, Full, GaveUp, class_of, IsRefusal, IfFile}
 use Rattle.ppq_engine.specs.Files.{IsReadInScript}
 use Rattle.ppq_engine.specs.Loads.{most_of, least_of, begins_limit, FitsWritten, IsLoad}
 use Rattle.ppq_engine.specs.Output.{AreFilesOf, given_of, output_of, load_of, crest_of, TakesWithin}
-use Rattle.ppq_engine.specs.Reading.{EndsAt}
 use Rattle.ppq_engine.specs.Refusal.{HasNoRoom}
 use Rattle.ppq_engine.specs.Running.{HasChanged}
 use Rattle.ppq_engine.specs.Work.{work_of}
 use Rattle.ppq_engine.specs.declared.end.End.{End}
-use Rattle.ppq_engine.specs.declared.end.End.TheVariants.{Done, BadLine, Usage, ReadFault, WriteFault, DeviceFault, NoFreeBlock, BudgetTooSmall, Memory, FileChanged, NoDevice, NoScript, ScriptTooLong}
+use Rattle.ppq_engine.specs.declared.end.End.TheVariants.{BadLine, BudgetTooSmall, FileChanged, NoDevice}
 use Rattle.ppq_cli.specs.Device.{IsSurelyRun}
-use Rattle.ppq_cli.specs.Load.{IsLoaded, check_end, script_kinds}
+use Rattle.ppq_cli.specs.Load.{check_end, load_end, script_kinds}
 use Rattle.ppq_cli.specs.Transfers.{TransfersWithin, AreUntouched}
 use Rattle.ppq_cli.specs.Types.{type_of}
 
@@ -33,83 +36,13 @@ use Rattle.ppq_cli.specs.Types.{type_of}
 abbrev pub Files : Type 0
 Files = List ℕ → Option (List ℕ)
 
--- reads of this file gave these pieces, one after the other with no gap, from an offset on
-abbrev pub AreGiven : (Reply → Type 0) → List ℕ → ℕ → List (List ℕ) → Type 0
-AreGiven replied name at [] = ⊤
-AreGiven replied name at (piece ∷ pieces) = ((room : ℕ) × replied (OfRead name at room piece)) × AreGiven replied name (at + length piece) pieces
-
--- reads of this file gave these bytes from its beginning on
-pub record IsGiven (replied : Reply → Type 0) (name bytes : List ℕ) : Type 0 where
-  pub pieces : List (List ℕ)
-  pub given : AreGiven replied name 0 pieces
-  pub all : concat pieces ≡ bytes
-
--- the library gave this file as these bytes: so many it said, and just these reads gave
-pub record IsReplied (replied : Reply → Type 0) (name bytes : List ℕ) : Type 0 where
-  pub said : replied (OfLength name (Some (length bytes)))
-  pub gave : IsGiven replied name bytes
-
--- a reply on this file: on its length, or to a read that ends at or before a length that was said of it
-abbrev pub IsOn : (Reply → Type 0) → List ℕ → Reply → Type 0
-IsOn replied asked (OfLength name size) = name ≡ asked
-IsOn replied asked (OfRead name at room given) = (name ≡ asked) × ((said : ℕ) × (replied (OfLength name (Some said)) × (at + room ≤ said)))
-
--- What a call leaves of the library: it tells what it told, remembers what it replied, and replied since to nothing but this
-pub record LibraryKeeps {L : Type 0} (files : L → Option (List ℕ → Option (List ℕ))) (replied : L → Reply → Type 0) (kind : Reply → Type 0) (old new : L) : Type 0 where
-  pub told : files new ≡ files old
-  pub remembers : Remembers (replied old) (replied new)
-  pub asks : RepliesOnly (replied old) (replied new) kind
-
--- A read gave so many bytes of this file behind the first `got`. None came only where the file ends
-pub record GivesMore (before now : Reply → Type 0) (name : List ℕ) (got : ℕ) (old new : List ℕ) (count : ℕ) : Type 0 where
-  pub within : got + count ≤ length new
-  pub given : IsGiven before name (take got old) → IsGiven now name (take (got + count) new)
-  pub ends : count ≡ 0 → EndsAt now name got
-
--- the library said that this file has so many bytes, which is not too long for a script
-pub record IsScriptLength (replied : Reply → Type 0) (name : List ℕ) (size : ℕ) : Type 0 where
-  pub short : size ≤ 1048576
-  pub said : replied (OfLength name (Some size))
-
--- the library gave this file as these bytes, not too many for a script, and where it tells, they are the file's
-pub record IsLoadedAs (told : Option Files) (replied : Reply → Type 0) (name bytes : List ℕ) : Type 0 where
-  pub short : length bytes ≤ 1048576
-  pub loaded : IsLoaded told name bytes
-  pub given : IsReplied replied name bytes
-
 -- the fact holds of bytes as which the library gave this file
 abbrev pub OfLoaded : Option Files → (Reply → Type 0) → List ℕ → (List ℕ → Type 0) → Type 0
-OfLoaded told replied name P = (bytes : List ℕ) × (IsLoadedAs told replied name bytes × P bytes)
-
--- the length of this file was said, and it is above that of the longest script
-abbrev pub IsTooLong : (Reply → Type 0) → List ℕ → Type 0
-IsTooLong replied name = (size : ℕ) × ((1048576 < size) × replied (OfLength name (Some size)))
-
--- the length of this file was said, reads gave fewer bytes of it, one behind the other, and a read behind those gave nothing; it is the
--- script, and the library does not tell
-pub record IsCutShort (told : Option Files) (replied : Reply → Type 0) (name : List ℕ) (line said got : ℕ) : Type 0 where
-  pub script : line ≡ 0
-  pub before : got < said
-  pub said_is : replied (OfLength name (Some said))
-  pub reached : (bytes : List ℕ) × ((length bytes ≡ got) × IsGiven replied name bytes)
-  pub read : EndsAt replied name got
-  pub untold : told ≡ None
+OfLoaded told replied name P = (bytes : List ℕ) × (IsLoadedAs told replied name 1048576 bytes × P bytes)
 
 -- the script was not loaded, and why rests on what the library replied of it
 abbrev pub IsUnloaded : Option Files → (Reply → Type 0) → List ℕ → End → Type 0
-IsUnloaded told replied name Done = ⊥
-IsUnloaded told replied name (BadLine line) = ⊥
-IsUnloaded told replied name Usage = ⊥
-IsUnloaded told replied name ReadFault = ⊤
-IsUnloaded told replied name WriteFault = ⊥
-IsUnloaded told replied name (DeviceFault number) = ⊥
-IsUnloaded told replied name NoFreeBlock = ⊥
-IsUnloaded told replied name (BudgetTooSmall need) = ⊥
-IsUnloaded told replied name Memory = ⊤
-IsUnloaded told replied name (FileChanged line said got) = IsCutShort told replied name line said got
-IsUnloaded told replied name NoDevice = ⊥
-IsUnloaded told replied name NoScript = replied (OfLength name None)
-IsUnloaded told replied name ScriptTooLong = IsTooLong replied name
+IsUnloaded told replied name end = (fault : WholeFault) × ((end ≡ load_end fault) × WholeRefusalIsRight told replied name 1048576 fault)
 
 -- A script that was read from these bytes for so many workers and has no bad line: its commands are those of the bytes, with the lengths
 -- that the library said of their files.
@@ -171,21 +104,13 @@ AsksOf words told before now r bytes end =
 abbrev pub AsksAreRight : Option Files → (Reply → Type 0) → (Reply → Type 0) → Arguments → End → Type 0
 AsksAreRight told before now r end = RepliesOnly before now (IsOn now r.script) ⊎ OfLoaded told now r.script (λ bytes. AsksOf (type_of bytes).words told before now r bytes end)
 
--- if the end refuses the script, that rests on what the library replied of its files
+-- if the end refuses the script, that rests on what the library replied of its files; it is no refusal of another kind
 abbrev pub RefusalOf : {R : Type 0} → Words R → Option Files → (Reply → Type 0) → Arguments → List ℕ → End → Type 0
-RefusalOf words told replied r bytes Done = ⊤
 RefusalOf words told replied r bytes (BadLine line) = IsBadLine words replied 1 (script_kinds words bytes r.given.numbers.workers) line
-RefusalOf words told replied r bytes Usage = ⊥
-RefusalOf words told replied r bytes ReadFault = ⊤
-RefusalOf words told replied r bytes WriteFault = ⊤
-RefusalOf words told replied r bytes (DeviceFault number) = ⊤
-RefusalOf words told replied r bytes NoFreeBlock = ⊤
 RefusalOf words told replied r bytes (BudgetTooSmall need) = IsTooSmall words r need × OfGood words told replied r bytes (λ script. ⊤)
-RefusalOf words told replied r bytes Memory = ⊤
 RefusalOf words told replied r bytes (FileChanged line said got) = OfRun words told replied r bytes (λ script. HasChanged told replied script line said got)
 RefusalOf words told replied r bytes NoDevice = OfRun words told replied r bytes (λ script. ⊤)
-RefusalOf words told replied r bytes NoScript = ⊥
-RefusalOf words told replied r bytes ScriptTooLong = ⊥
+RefusalOf words told replied r bytes end = ¬ IsRefusal (class_of end)
 
 -- the script was not loaded; or it was, as some bytes, and a refusal of it is right for the records that its head names
 abbrev pub RefusalIsRight : Option Files → (Reply → Type 0) → Arguments → End → Type 0
@@ -238,36 +163,23 @@ RanToLoad words form tells told before now script = (now ≡ before) ⊎ HasRunT
 
 -- where a file could not be read, or had changed, the sink took the output of the commands before one that reads a file
 abbrev pub FaultToFile : {R : Type 0} → Words R → Form → Type 0 → Option Files → Option (List ℕ) → Option (List ℕ) → Reading R → End → Type 0
-FaultToFile words form tells told before now script Done = ⊤
-FaultToFile words form tells told before now script (BadLine line) = ⊤
-FaultToFile words form tells told before now script Usage = ⊤
-FaultToFile words form tells told before now script ReadFault = HasRunToFile words form tells told before now script
-FaultToFile words form tells told before now script WriteFault = ⊤
-FaultToFile words form tells told before now script (DeviceFault number) = ⊤
-FaultToFile words form tells told before now script NoFreeBlock = ⊤
-FaultToFile words form tells told before now script (BudgetTooSmall need) = ⊤
-FaultToFile words form tells told before now script Memory = ⊤
-FaultToFile words form tells told before now script (FileChanged line said got) = HasRunToFile words form tells told before now script
-FaultToFile words form tells told before now script NoDevice = ⊤
-FaultToFile words form tells told before now script NoScript = ⊤
-FaultToFile words form tells told before now script ScriptTooLong = ⊤
+FaultToFile words form tells told before now script end = IfFile (class_of end) (HasRunToFile words form tells told before now script)
 
--- the end is that of a run of the script: after `ReadFault` and `FileChanged` it reads a file and was run as far as that; after `Memory`
--- it begins a session and was run as far as that
+-- the class of ends is that of a run of the script: where a file could not be read, or had changed, it reads one and was run as far as that;
+-- where memory was wanting it begins a session and was run as far as that
+abbrev pub RunBy : {R : Type 0} → Words R → Type 0 → Option Files → (Reply → Type 0) → Arguments → List ℕ → Option (List ℕ) → Option (List ℕ) → List Shown → Class → Type 0
+RunBy words tells told replied r bytes before now blocks Finished = OfRun words told replied r bytes (HasRunWhole words r.form tells told (sizes_at words.WIDTH r) before now blocks)
+RunBy words tells told replied r bytes before now blocks Refused = ⊥
+RunBy words tells told replied r bytes before now blocks Unmade = ⊥
+RunBy words tells told replied r bytes before now blocks Unread = OfRun words told replied r bytes (HasRunToFile words r.form tells told before now)
+RunBy words tells told replied r bytes before now blocks Broken = OfRun words told replied r bytes (HasRunPart words r.form tells told before now)
+RunBy words tells told replied r bytes before now blocks Shrunk = OfRun words told replied r bytes (HasRunToFile words r.form tells told before now)
+RunBy words tells told replied r bytes before now blocks Full = OfRun words told replied r bytes (HasRunFull words r.form tells told (sizes_at words.WIDTH r) before now)
+RunBy words tells told replied r bytes before now blocks GaveUp = OfGood words told replied r bytes (HasRunToLoad words r.form tells told before now)
+
+-- the end is that of such a run
 abbrev pub RunOf : {R : Type 0} → Words R → Type 0 → Option Files → (Reply → Type 0) → Arguments → List ℕ → Option (List ℕ) → Option (List ℕ) → List Shown → End → Type 0
-RunOf words tells told replied r bytes before now blocks Done = OfRun words told replied r bytes (HasRunWhole words r.form tells told (sizes_at words.WIDTH r) before now blocks)
-RunOf words tells told replied r bytes before now blocks (BadLine line) = ⊥
-RunOf words tells told replied r bytes before now blocks Usage = ⊥
-RunOf words tells told replied r bytes before now blocks ReadFault = OfRun words told replied r bytes (HasRunToFile words r.form tells told before now)
-RunOf words tells told replied r bytes before now blocks WriteFault = OfRun words told replied r bytes (HasRunPart words r.form tells told before now)
-RunOf words tells told replied r bytes before now blocks (DeviceFault number) = OfRun words told replied r bytes (HasRunPart words r.form tells told before now)
-RunOf words tells told replied r bytes before now blocks NoFreeBlock = OfRun words told replied r bytes (HasRunFull words r.form tells told (sizes_at words.WIDTH r) before now)
-RunOf words tells told replied r bytes before now blocks (BudgetTooSmall need) = ⊥
-RunOf words tells told replied r bytes before now blocks Memory = OfGood words told replied r bytes (HasRunToLoad words r.form tells told before now)
-RunOf words tells told replied r bytes before now blocks (FileChanged line said got) = OfRun words told replied r bytes (HasRunToFile words r.form tells told before now)
-RunOf words tells told replied r bytes before now blocks NoDevice = ⊥
-RunOf words tells told replied r bytes before now blocks NoScript = ⊥
-RunOf words tells told replied r bytes before now blocks ScriptTooLong = ⊥
+RunOf words tells told replied r bytes before now blocks end = RunBy words tells told replied r bytes before now blocks (class_of end)
 
 -- nothing was written, and the end is not one that comes of a run alone
 pub record WroteNothing (before now : Option (List ℕ)) (end : End) : Type 0 where

@@ -1,10 +1,9 @@
--- The words of the contract of `run_words`, in the order of its clauses. `run_over`, `run_and_report` and `run_twice` use them too.
-use Rattle.std.specs.Prelude.{◌≡◌, ◌⊎◌, ℕ, ◌<◌, ◌≤◌, List, [], length, false, Option, Some, None, if◌then◌else◌, IfSome, nat_lt, MatchOption, map, String, All}
+-- The words of the contract of `run_words`, in the order of its clauses; those that speak of the outside alone are in `Outside`. `run_over`, `run_and_report` and `run_twice` use them too.
+use Rattle.std.specs.Prelude.{◌≡◌, ◌⊎◌, ℕ, List, length, Option, Some, None, if◌then◌else◌, IfSome, nat_lt, MatchOption, map, String}
 use Rattle.std.specs.declared.alloc.Global.{Global}
 use Rattle.ppq_engine.specs.ppq_load.Given.{records_of}
-use Rattle.ppq_words.specs.ppq_outside.Made.{HasMadeJust}
 use Rattle.ppq_words.specs.ppq_outside.Shown.{Shown}
-use Rattle.ppq_words.specs.ppq_outside.Told.{Reply, Remembers, TakesAll, TakesPart, bytes_or_none}
+use Rattle.ppq_words.specs.ppq_outside.Told.{Reply, TakesAll, TakesPart, bytes_or_none}
 use Rattle.ppq_words.specs.ppq_outside.declared.library.Library.{Ghosts as LibraryShows}
 use Rattle.ppq_words.specs.ppq_outside.declared.rack.Rack.{Ghosts as RackShows}
 use Rattle.ppq_words.specs.ppq_outside.declared.sink.Sink.{Ghosts as SinkShows}
@@ -17,15 +16,14 @@ use Rattle.ppq_words.specs.ppq_script.Checking.{with_sizes}
 use Rattle.ppq_words.specs.Reading.{Reading, reading_of, texts_of, sizes_at}
 use Rattle.ppq_words.specs.Strays.{may_run}
 use Rattle.ppq_engine.specs.declared.end.End.{End}
-use Rattle.ppq_engine.specs.declared.end.End.TheVariants.{Done, BadLine, Usage, ReadFault, WriteFault, DeviceFault, NoFreeBlock, BudgetTooSmall, Memory, NoDevice, NoScript, ScriptTooLong}
+use Rattle.ppq_engine.specs.declared.end.End.TheVariants.{Done, BadLine, Usage, ReadFault, NoFreeBlock, BudgetTooSmall, Memory, NoDevice, NoScript, ScriptTooLong}
 use Rattle.ppq_engine.specs.declared.end.Ended.{Ended}
-use Rattle.ppq_engine.specs.ppq_array.Kept.{HasFailed}
 use Rattle.ppq_engine.specs.Output.{output_of, load_of, crest_of, TakesWithin}
 use Rattle.ppq_engine.specs.Loads.{most_of, least_of, begins_limit, FitsWritten}
 use Rattle.ppq_engine.specs.Refusal.{HasRoom, HasNoRoom}
 use Rattle.ppq_engine.specs.Ends.{BeganCommands, NoFault}
 use Rattle.ppq_engine.specs.Work.{work_of}
-use Rattle.ppq_cli.specs.Device.{AreBlocks}
+use Rattle.ppq_cli.specs.Outside.{WritesText, IsHigher, OutsideKept, Unreadable}
 use Rattle.ppq_cli.specs.Load.{script_kinds}
 use Rattle.ppq_cli.specs.Replies.{Files, need_of, RefusalIsRight, RunIsRight, TransfersAreRight, AsksAreRight}
 use Rattle.ppq_cli.specs.Transfers.{TransfersWithin}
@@ -40,6 +38,13 @@ reading words = reading_of (texts_of words)
 -- the fact holds of what the words say, where they have a reading
 abbrev pub OfWords : List (String Global) → (Reading → Type 0) → Type 0
 OfWords words P = IfSome (reading words) P
+
+-- the device that they name, and how many blocks it has
+abbrev pub device_named : Reading → List ℕ
+device_named r = r.device
+
+abbrev pub blocks_given : Reading → ℕ
+blocks_given r = r.given.numbers.blocks
 
 -- the commands of a script of these bytes for so many workers, where these are the files: each that reads one has its length
 abbrev pub script_commands : {R : Type 0} → Words R → Files → List ℕ → ℕ → List (Command R)
@@ -78,10 +83,6 @@ WritesPart told before now type r given commands = TakesPart (told before) (told
 -- at least what the first commands print, as long as there is room for their load
 abbrev pub WritesRoom : {S : Type 0} → (S → Option (List ℕ)) → S → S → About
 WritesRoom told before now type r given commands = TakesWithin type.words r.form given (told before) (told now) (sizes_at type.words.WIDTH r) commands
-
--- the ends after which something may have been written
-abbrev pub MayWrite : End → Type 0
-MayWrite end = BeganCommands end ⊎ (end ≡ Memory)
 
 -- if the script was run as the library gave it, all of that holds of what the sink took and of the blocks
 abbrev pub IfRan :
@@ -177,45 +178,28 @@ EndsWell measure r files bytes end = refusal_of_file files (Some bytes) r ≡ No
 abbrev pub Completes : {L : Type 0} → Measure → (L → Option Files) → L → List (String Global) → End → Type 0
 Completes measure told library words end = OfWords words (λ r. IfSome (told library) (λ files. IfSome (files r.script) (λ bytes. EndsWell measure r files bytes end)))
 
--- The clauses of `run_words` as one, under their names, for an outcome with its blocks: by what library, rack, sink and blocks show, before
--- the call and after it.
+-- the fact holds of what the script that the words name prints, in the form that they say, where blocks and library tell and the library has it
+abbrev pub OfOutput : {L : Type 0} → Type 0 → (L → Option Files) → L → List (String Global) → (List ℕ → Type 0) → Type 0
+OfOutput tells told library words P = tells → OfScript told library words (λ type r given commands. P (output_of type.words r.form given commands))
+
+-- The clauses of `run_words` as one, for an outcome with its blocks: those that speak of the outside alone are in `WritesText`, `OutsideKept` and `Unreadable`,
+-- and each other one stands here under its name.
 pub record RunsWords
     {L K O S : Type 0} (library : LibraryShows L) (rack : RackShows K S) (sink : SinkShows O) (shown : S → Shown) (words : List (String Global))
     (old_library new_library : L) (old_rack new_rack : K) (old_out new_out : O) (ended : Ended S) : Type 0 where
-  pub done : ended.end ≡ Done → rack.tells old_rack → OfScript library.told old_library words (WritesAll sink.told old_out new_out)
-  pub part : rack.tells old_rack → OfScript library.told old_library words (WritesPart sink.told old_out new_out)
+  pub written : WritesText (OfOutput (rack.tells old_rack) library.told old_library words) (sink.told old_out) (sink.told new_out) ended.end
   pub room : ended.end ≡ NoFreeBlock → rack.tells old_rack → OfScript library.told old_library words (WritesRoom sink.told old_out new_out)
-  pub nothing : MayWrite ended.end ⊎ (sink.told new_out ≡ sink.told old_out)
   pub ran : IfRan words rack.tells old_rack library.told old_library library.replied new_library sink.told old_out new_out shown ended
   pub used : ended.end ≡ Done → rack.tells old_rack → OfScript library.told old_library words (UsesDevice crest_by shown ended)
   pub used_any : ended.end ≡ Done → OfScript library.told old_library words (UsesDevice least_by shown ended)
   pub transfers : OfScript library.told old_library words (TransfersBounded shown ended)
   pub transfers_any : AreTransfersRight words library.told old_library library.replied new_library shown ended
-  pub made : OfWords words (λ r. HasMadeJust (rack.made old_rack r.device) (rack.made new_rack r.device) (map (λ slot. (shown slot).number) ended.blocks.items))
-  pub blocks : OfWords words (λ r. AreBlocks r.given.numbers.blocks ended.end (map shown ended.blocks.items))
-  pub unfailed : (ended.end ≡ Done) ⊎ (ended.end ≡ NoFreeBlock) → All (λ (s : Shown). s.faults ≡ 0) (map shown ended.blocks.items)
-  pub none : reading words ≡ None → ended.blocks.items ≡ []
-  pub unasked : reading words ≡ None → (new_library ≡ old_library) × ((new_rack ≡ old_rack) × (new_out ≡ old_out))
-  pub rack_tells : rack.tells old_rack → rack.tells new_rack
-  pub files : library.told new_library ≡ library.told old_library
-  pub remembers : Remembers (library.replied old_library) (library.replied new_library)
   pub reads : OfWords words (λ r. AsksAreRight (library.told old_library) (library.replied old_library) (library.replied new_library) r ended.end)
-  pub usage : ended.end ≡ Usage → reading words ≡ None
-  pub no_reading : reading words ≡ None → (ended.end ≡ Usage) ⊎ (ended.end ≡ Memory)
-  pub early : reading words ≡ None → may_run (texts_of words) ≡ false → ended.end ≡ Usage
+  pub outside : OutsideKept IsHigher library rack sink shown (reading words) device_named blocks_given old_library new_library old_rack new_rack old_out new_out ended
+  pub unreadable : Unreadable (reading words) (may_run (texts_of words)) old_library new_library old_rack new_rack old_out new_out ended
   pub answer : IfSome (library.told old_library) (λ files. IsAnswer (refusal_of (reading words) files) ended.end)
   pub refused : OfWords words (λ r. RefusalIsRight (library.told old_library) (library.replied new_library) r ended.end)
-  pub read : ended.end ≡ ReadFault → library.faults old_library < library.faults new_library
-  pub write : ended.end ≡ WriteFault → sink.faults old_out < sink.faults new_out
-  pub device : ended.end ≡ NoDevice → rack.faults old_rack < rack.faults new_rack
-  pub failed : (number : ℕ) → ended.end ≡ DeviceFault number → HasFailed number (map shown ended.blocks.items)
   pub above : ended.end ≡ NoFreeBlock → rack.tells old_rack → OfScript library.told old_library words (IsTooLarge load_by)
   pub above_any : ended.end ≡ NoFreeBlock → OfScript library.told old_library words (IsTooLarge most_by)
-  pub library_later : library.faults old_library ≤ library.faults new_library
-  pub library_stays : ¬ (ended.end ≡ ReadFault) → ¬ (ended.end ≡ WriteFault) → library.faults new_library ≡ library.faults old_library
-  pub rack_later : rack.faults old_rack ≤ rack.faults new_rack
-  pub rack_stays : ¬ (ended.end ≡ NoDevice) → rack.faults new_rack ≡ rack.faults old_rack
-  pub sink_later : sink.faults old_out ≤ sink.faults new_out
-  pub sink_stays : ¬ (ended.end ≡ WriteFault) → sink.faults new_out ≡ sink.faults old_out
   pub complete : rack.tells old_rack → NoFault ended.end → Completes load_by library.told old_library words ended.end
   pub complete_any : NoFault ended.end → Completes most_by library.told old_library words ended.end

@@ -1,9 +1,13 @@
 //! The program as a library: what `ppq` does, with the outside handed in.
 //!
-//! [`run_words`] does all that the program does; [`run_and_report`] reports its outcome too, and returns the status
-//! with which the program ends.
+//! [`all_words`] does all that the program does; [`run_and_report`] reports its outcome too, and returns the status
+//! with which the program ends. The only command so far is that of a script, which is [`run_words`].
+//!
+//! Every call returns, over any script, files and device: it waits for no other thread but those that it starts and
+//! joins, and these are proved to return too.
 #![tactic(auto)]
 
+mod all;
 mod arguments;
 mod checked;
 mod context;
@@ -15,10 +19,12 @@ mod reading;
 mod reports;
 mod run;
 mod statuses;
+mod subcommand;
 mod top_call;
 mod twice;
 mod whole;
 
+pub use all::all_words;
 pub use arguments::words_of;
 pub use checked::run_checked;
 pub use ppq_checked::CheckedRack;

@@ -2,12 +2,12 @@
 ghost use Rattle.std.specs.Prelude.{◌≡◌, ◌≤◌, ◌<◌, ◌^◌, IsTrue};
 ghost use Rattle.ppq_cli.specs.Report.{report_of, TakesLine};
 ghost use Rattle.ppq_cli.specs.Status.{status_of, writes_nothing, IsReported};
-ghost use Rattle.ppq_cli.specs.RunWords.{OfScript, WritesAll, WritesPart, IsTooLarge, load_by, RunsWords};
+ghost use Rattle.ppq_cli.specs.AllWords.{AllWords};
+ghost use Rattle.ppq_cli.specs.RunWords.{OfScript, WritesAll, WritesPart, IsTooLarge, load_by};
 
-use crate::context::Context;
+use crate::all::all_words;
 use crate::reports::report;
 use crate::statuses::status;
-use crate::whole::run_whole;
 use ppq_engine::End;
 use ppq_words::{Gate, Host, Library, Rack, Sink};
 use std::alloc::Global;
@@ -26,7 +26,7 @@ pub fn report_end<H: Host, E: Sink>(rt: &H, end: &End, errors: &mut E) -> u8
 
 /// Does what the arguments say, reports the outcome, and returns its status.
 ///
-/// All that `run_words` promises holds of an outcome, with its blocks, whose number is the status; the
+/// All that [`all_words`] promises holds of an outcome, with its blocks, whose number is the status; the
 /// line that the sink for reports took is that of the same outcome. So status 0 says that the sink took
 /// the script's whole output, and that no call of library, rack and sink failed; every other status,
 /// that the sink took a prefix of that output, and 1, 2, 7, 10, 11 and 12, that it took nothing.
@@ -47,8 +47,8 @@ where
     requires rack { K.faults rack.old < 2 ^ 63 }
     requires sink { O.faults out.old < 2 ^ 63 }
 
-    // All that `run_words` promises, of the outcome whose number is the status and whose line the sink for reports took.
-    ensures outcome { IsReported E.Sink errors.old errors.new result (RunsWords L.Library K.Rack O.Sink K.Slot.shown words.now library.old library.new rack.old rack.new out.old out.new) }
+    // All that `all_words` promises, of the outcome whose number is the status and whose line the sink for reports took.
+    ensures outcome { IsReported E.Sink errors.old errors.new result (AllWords L.Library K.Rack O.Sink K.Slot.shown words.now library.old library.new rack.old rack.new out.old out.new) }
 
     // What a reader asks first, by the status: it follows from the outcome.
     ensures done { result ≡ 0 → K.tells rack.old → OfScript L.told library.old words.now (WritesAll O.told out.old out.new) }
@@ -57,7 +57,6 @@ where
     ensures above { result ≡ 6 → K.tells rack.old → OfScript L.told library.old words.now (IsTooLarge load_by) }
     ensures errors_later { E.faults errors.old ≤ E.faults errors.new }
 {
-    let context = Context { rt, alloc, gate };
-    let ended = run_whole(&context, words, library, rack, out);
+    let ended = all_words(rt, alloc, words, library, rack, gate, out);
     report_end(rt, &ended.end, errors)
 }

@@ -6,7 +6,8 @@ ghost use Rattle.ppq_words.specs.ppq_outside.Told.{RepliesOnly};
 ghost use Rattle.ppq_words.specs.ppq_script.Files.{IsLength};
 ghost use Rattle.ppq_words.specs.ppq_script.Checking.{IsKeptLength};
 ghost use Rattle.ppq_cli.specs.Load.{CheckCounts, check_end};
-ghost use Rattle.ppq_cli.specs.Replies.{IsScript, IsRefused, LibraryKeeps};
+ghost use Rattle.ppq_cli.specs.Replies.{IsScript, IsRefused};
+ghost use Rattle.ppq_files.specs.Reading.{LibraryKeeps};
 
 use ppq_engine::End;
 use ppq_words::{CheckFault, Fields, Host, Library, Script, check_files, read};

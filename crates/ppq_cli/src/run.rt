@@ -2,9 +2,11 @@
 ghost use Rattle.std.specs.Prelude.{◌≡◌, ◌≤◌, ℕ, List, Option, [], Some, IsTrue, map};
 ghost use Rattle.ppq_engine.specs.Output.{KeepsLengths};
 ghost use Rattle.ppq_engine.specs.Files.{IsReadInScript};
-ghost use Rattle.ppq_cli.specs.Replies.{LibraryKeeps};
-ghost use Rattle.ppq_cli.specs.RunOver.{RunWrites, RunBlocks, RunTransfers, RunEnds, RunFaults};
 ghost use Rattle.ppq_cli.specs.Device.{make_end};
+ghost use Rattle.ppq_cli.specs.Outside.{OutsideKept};
+ghost use Rattle.ppq_cli.specs.RunOver.{RunWrites, RunTransfers, RunEnds};
+ghost use Rattle.ppq_cli.specs.RunWords.{device_named, blocks_given};
+ghost use Rattle.ppq_words.specs.ppq_outside.Told.{Rose, RepliesOnly};
 ghost use Rattle.ppq_words.specs.Reading.{as_reading, sizes_at};
 
 use crate::context::Context;
@@ -56,14 +58,13 @@ where
     requires workers { script.now.workers ≡ arguments.now.given.numbers.workers }
     requires lengths { (files : List ℕ → Option (List ℕ)) → L.told library.old ≡ Some files → KeepsLengths files script.now }
 
-    // What is written and when each end comes, by the files that the library tells, or any where the script reads none. All blocks
-    // that were made come back, files are only read, and a count of faults rises only with an end that names a fault.
+    // What is written and when each end comes, by the files that the library tells, or any where the script reads none; what is said of the
+    // outside; and that the library was asked for no more than the script reads.
     ensures written { RunWrites R.Fields (K.tells rack.old) (L.told library.old) (O.told out.old) (O.told out.new) (as_reading arguments.now) script.now (map K.Slot.shown result.blocks.items) result.end }
-    ensures blocks { RunBlocks K.Slot.shown (K.tells rack.old) (K.tells rack.new) (K.made rack.old (as_reading arguments.now).device) (K.made rack.new (as_reading arguments.now).device) arguments.now.given.numbers.blocks result }
+    ensures outside { OutsideKept Rose L.Library K.Rack O.Sink K.Slot.shown (Some (as_reading arguments.now)) device_named blocks_given library.old library.new rack.old rack.new out.old out.new result }
     ensures transfers { RunTransfers R.Fields (sizes_at R.WIDTH (as_reading arguments.now)) script.now (map K.Slot.shown result.blocks.items) }
-    ensures library { LibraryKeeps L.told L.replied (IsReadInScript script.now) library.old library.new }
-    ensures ends { RunEnds R.Fields (L.told library.old) (L.replied library.new) (as_reading arguments.now) script.now (map K.Slot.shown result.blocks.items) result.end }
-    ensures faults { RunFaults (L.faults library.old) (L.faults library.new) (K.faults rack.old) (K.faults rack.new) (O.faults out.old) (O.faults out.new) result.end }
+    ensures asks { RepliesOnly (L.replied library.old) (L.replied library.new) (IsReadInScript script.now) }
+    ensures ends { RunEnds R.Fields (L.told library.old) (L.replied library.new) (as_reading arguments.now) script.now result.end }
 {
     record_laws::<R>();
     let sizes = arguments.given.for_width(R::WIDTH as u64);

@@ -1,4 +1,4 @@
-//! The top call.
+//! The top call of a script.
 ghost use Rattle.std.specs.Prelude.{◌≡◌, ◌≤◌, ◌<◌, ◌⊎◌, ◌^◌, ℕ, [], None, false, IfSome, map, All};
 ghost use Rattle.ppq_engine.specs.ppq_array.Kept.{HasFailed};
 ghost use Rattle.ppq_words.specs.ppq_outside.Told.{Remembers};
@@ -9,19 +9,21 @@ ghost use Rattle.ppq_engine.specs.Ends.{NoFault};
 ghost use Rattle.ppq_engine.specs.declared.end.End.TheVariants as ends;
 ghost use Rattle.ppq_engine.specs.declared.end.End.TheVariants.{Done, Usage, ReadFault, WriteFault, DeviceFault, NoFreeBlock, NoDevice};
 ghost use Rattle.ppq_cli.specs.Device.{AreBlocks};
+ghost use Rattle.ppq_cli.specs.Outside.{MayWrite};
 ghost use Rattle.ppq_cli.specs.Replies.{RefusalIsRight, AsksAreRight};
-ghost use Rattle.ppq_cli.specs.RunWords.{reading, OfWords, OfScript, WritesAll, WritesPart, WritesRoom, MayWrite, IfRan, UsesDevice, TransfersBounded, AreTransfersRight};
+ghost use Rattle.ppq_cli.specs.RunWords.{reading, OfWords, OfScript, WritesAll, WritesPart, WritesRoom, IfRan, UsesDevice, TransfersBounded, AreTransfersRight};
 ghost use Rattle.ppq_cli.specs.RunWords.{load_by, crest_by, most_by, least_by, refusal_of, IsAnswer, IsTooLarge, Completes};
 
 use crate::context::Context;
 use crate::kinds::run_bytes;
-use crate::load::{end_of, load};
+use crate::load::{LONGEST, end_of};
 use crate::run::without_blocks;
 use ppq_engine::{End, Ended};
+use ppq_files::read_whole;
 use ppq_words::{Gate, Host, Library, Memory, Rack, Sink, read_words};
 use std::alloc::Global;
 
-/// Does all that the program does, with the outside handed in: reads the arguments, loads the script
+/// Does all that the program does with a script, with the outside handed in: reads the arguments, loads the script
 /// that they name and checks it and its files, makes the device, and executes the script over it. The
 /// records are those that the script's head names: blocks and record files are made of them, and of a
 /// budget in bytes as many of them count as fit.
@@ -81,41 +83,45 @@ where
     // What is written: the output to the sink, what is above the budget to the blocks that were made; files are only read.
     ensures done { result.end ≡ Done → K.tells rack.old → OfScript L.told library.old words.now (WritesAll O.told out.old out.new) }
     ensures part { K.tells rack.old → OfScript L.told library.old words.now (WritesPart O.told out.old out.new) }
-    ensures room { result.end ≡ NoFreeBlock → K.tells rack.old → OfScript L.told library.old words.now (WritesRoom O.told out.old out.new) }
     ensures nothing { MayWrite result.end ⊎ (O.told out.new ≡ O.told out.old) }
+    ensures room { result.end ≡ NoFreeBlock → K.tells rack.old → OfScript L.told library.old words.now (WritesRoom O.told out.old out.new) }
     ensures ran { IfRan words.now K.tells rack.old L.told library.old L.replied library.new O.told out.old out.new K.Slot.shown result }
     ensures used { result.end ≡ Done → K.tells rack.old → OfScript L.told library.old words.now (UsesDevice crest_by K.Slot.shown result) }
     ensures used_any { result.end ≡ Done → OfScript L.told library.old words.now (UsesDevice least_by K.Slot.shown result) }
     ensures transfers { OfScript L.told library.old words.now (TransfersBounded K.Slot.shown result) }
     ensures transfers_any { AreTransfersRight words.now L.told library.old L.replied library.new K.Slot.shown result }
+    ensures reads { OfWords words.now (λ r. AsksAreRight (L.told library.old) (L.replied library.old) (L.replied library.new) r result.end) }
+
+    // The outside: all blocks come back, and a count of faults rises only with the outcome that names it; but a read may have failed before `WriteFault`.
     ensures made { OfWords words.now (λ r. HasMadeJust (K.made rack.old r.device) (K.made rack.new r.device) (map (λ slot. (K.Slot.shown slot).number) result.blocks.items)) }
     ensures blocks { OfWords words.now (λ r. AreBlocks r.given.numbers.blocks result.end (map K.Slot.shown result.blocks.items)) }
     ensures unfailed { (result.end ≡ Done) ⊎ (result.end ≡ NoFreeBlock) → All (λ s. s.faults ≡ 0) (map K.Slot.shown result.blocks.items) }
-    ensures none { reading words.now ≡ None → result.blocks.items ≡ [] }
-    ensures unasked { reading words.now ≡ None → (library.new ≡ library.old) × ((rack.new ≡ rack.old) × (out.new ≡ out.old)) }
+    ensures failed { (number : ℕ) → result.end ≡ DeviceFault number → HasFailed number (map K.Slot.shown result.blocks.items) }
     ensures rack_tells { K.tells rack.old → K.tells rack.new }
     ensures files { L.told library.new ≡ L.told library.old }
     ensures remembers { Remembers (L.replied library.old) (L.replied library.new) }
-    ensures reads { OfWords words.now (λ r. AsksAreRight (L.told library.old) (L.replied library.old) (L.replied library.new) r result.end) }
-
-    // When each outcome comes: each has its cause, and a count of faults rises only with the outcome that names it; but a read may have failed before `WriteFault`.
-    ensures usage { result.end ≡ Usage → reading words.now ≡ None }
-    ensures no_reading { reading words.now ≡ None → (result.end ≡ Usage) ⊎ (result.end ≡ ends.Memory) }
-    ensures early { reading words.now ≡ None → may_run (texts_of words.now) ≡ false → result.end ≡ Usage }
-    ensures answer { IfSome (L.told library.old) (λ files. IsAnswer (refusal_of (reading words.now) files) result.end) }
-    ensures refused { OfWords words.now (λ r. RefusalIsRight (L.told library.old) (L.replied library.new) r result.end) }
     ensures read { result.end ≡ ReadFault → L.faults library.old < L.faults library.new }
     ensures write { result.end ≡ WriteFault → O.faults out.old < O.faults out.new }
     ensures device { result.end ≡ NoDevice → K.faults rack.old < K.faults rack.new }
-    ensures failed { (number : ℕ) → result.end ≡ DeviceFault number → HasFailed number (map K.Slot.shown result.blocks.items) }
-    ensures above { result.end ≡ NoFreeBlock → K.tells rack.old → OfScript L.told library.old words.now (IsTooLarge load_by) }
-    ensures above_any { result.end ≡ NoFreeBlock → OfScript L.told library.old words.now (IsTooLarge most_by) }
     ensures library_later { L.faults library.old ≤ L.faults library.new }
     ensures library_stays { ¬ (result.end ≡ ReadFault) → ¬ (result.end ≡ WriteFault) → L.faults library.new ≡ L.faults library.old }
     ensures rack_later { K.faults rack.old ≤ K.faults rack.new }
     ensures rack_stays { ¬ (result.end ≡ NoDevice) → K.faults rack.new ≡ K.faults rack.old }
     ensures sink_later { O.faults out.old ≤ O.faults out.new }
     ensures sink_stays { ¬ (result.end ≡ WriteFault) → O.faults out.new ≡ O.faults out.old }
+
+    // Arguments without a reading: nothing is made, and library, rack and sink are left alone.
+    ensures usage { result.end ≡ Usage → reading words.now ≡ None }
+    ensures no_reading { reading words.now ≡ None → (result.end ≡ Usage) ⊎ (result.end ≡ ends.Memory) }
+    ensures early { reading words.now ≡ None → may_run (texts_of words.now) ≡ false → result.end ≡ Usage }
+    ensures none { reading words.now ≡ None → result.blocks.items ≡ [] }
+    ensures unasked { reading words.now ≡ None → (library.new ≡ library.old) × ((rack.new ≡ rack.old) × (out.new ≡ out.old)) }
+
+    // When each other outcome comes.
+    ensures answer { IfSome (L.told library.old) (λ files. IsAnswer (refusal_of (reading words.now) files) result.end) }
+    ensures refused { OfWords words.now (λ r. RefusalIsRight (L.told library.old) (L.replied library.new) r result.end) }
+    ensures above { result.end ≡ NoFreeBlock → K.tells rack.old → OfScript L.told library.old words.now (IsTooLarge load_by) }
+    ensures above_any { result.end ≡ NoFreeBlock → OfScript L.told library.old words.now (IsTooLarge most_by) }
 
     // Completeness: a script that is not refused, with room for its load, is done, unless an allocation or the outside failed.
     ensures complete { K.tells rack.old → NoFault result.end → Completes load_by L.told library.old words.now result.end }
@@ -128,9 +134,12 @@ where
     let Some(arguments) = found else {
         return without_blocks(alloc, End::Usage);
     };
-    let context = Context { rt, alloc, gate };
-    match load(rt, alloc, library, arguments.script) {
-        Ok(bytes) => run_bytes(&context, &bytes, &arguments, library, rack, out),
+    let files = ppq_files::Context { rt, alloc };
+    match read_whole(&files, library, arguments.script, LONGEST) {
+        Ok(bytes) => {
+            let context = Context { rt, alloc, gate };
+            run_bytes(&context, &bytes, &arguments, library, rack, out)
+        }
         Err(fault) => without_blocks(alloc, end_of(fault)),
     }
 }

@@ -1,7 +1,7 @@
 //! What the tests over memory share: words, a library, a sink, and a run of them.
 ghost use Rattle.std.specs.Prelude.{◌≡◌, ◌<◌, ◌^◌};
 
-use ppq_cli::{End, Ended, run_words};
+use ppq_cli::{End, Ended, all_words};
 use ppq_outside::{
     Host, Library, MemLibrary, MemRack, MemSink, MemSlot, OpenGate, Rack, Sink, Slot,
 };
@@ -89,7 +89,7 @@ where
     requires sink { ⟦<MemSink as Sink>⟧.faults sink.old < 2 ^ 63 }
 {
     let words = words_in(rt, alloc, line);
-    run_words(rt, alloc, &words, library, rack, &OpenGate, sink)
+    all_words(rt, alloc, &words, library, rack, &OpenGate, sink)
 }
 
 /// Asserts how a line of words ends, over a library, a rack and a sink, and what the sink holds then.

@@ -514,3 +514,22 @@ fn two_runs_with_sizes_of_their_own_write_the_same(rt: HostRuntime) {
     assert_eq!(rt; other.bytes(), one.bytes());
     assert_eq!(rt; (rack.made().len(), other_rack.made().len()), (200, 100));
 }
+
+// Command lines of commands that are planned, and of none.
+const PLANNED: &[&str] = &[
+    "sim",
+    "sweep",
+    "sim s --device d --workers 2 --block 2 --heap 1 --memory 372 --blocks 200",
+    "sweep s --device d --workers 2 --block 2 --heap 1 --memory 372 --blocks 200",
+    "Sim s",
+    "simulate s",
+    "",
+];
+
+#[test]
+fn a_planned_command_is_usage_and_touches_nothing(rt: HostRuntime) {
+    'planned: for line in PLANNED {
+        let used = gives(&rt, rt.alloc(), line, b"push 1 2\npop\n", End::Usage, b"");
+        assert_eq!(rt; used.made, 0, "{line}");
+    }
+}

@@ -1,25 +1,20 @@
-use Rattle.std.proofs.Common.{◌≡◌, ◌∙◌, ℕ, sym, subst, inl, inr}
-use Rattle.std.specs.Prelude.{IsTrue}
-use Rattle.ppq_cli.specs.Status.{writes_nothing}
-use Rattle.ppq_cli.proofs.ByStatus.{is_done, is_full, has_not_written}
+use Rattle.ppq_cli.specs.AllWords.{AllWords}
+use Rattle.ppq_cli.proofs.AllWords.{said_by_status}
 use Rattle.ppq_cli.proofs.program.run_and_report.Goals as goal
 
-pub returns-clause-outcome : goal.returns-clause-outcome
-returns-clause-outcome g c = (c.run_whole-ended.result, (c.run_whole-ended.ensures, (c.report_end.ensures.status, c.report_end.ensures.line)))
-
-pub returns-clause-done : goal.returns-clause-done
-returns-clause-done g c = λ is. c.run_whole-ended.ensures.done (is_done c.run_whole-ended.result.end (sym c.report_end.ensures.status ∙ is))
-
-pub returns-clause-part : goal.returns-clause-part
-returns-clause-part g c = c.run_whole-ended.ensures.part
-
-pub returns-clause-above : goal.returns-clause-above
-returns-clause-above g c = λ is. c.run_whole-ended.ensures.above (is_full c.run_whole-ended.result.end (sym c.report_end.ensures.status ∙ is))
-
-pub returns-clause-nothing : goal.returns-clause-nothing
-returns-clause-nothing g c = λ none.
-    let end = c.run_whole-ended.result.end in
-    elim c.run_whole-ended.ensures.nothing as (λ _. g.O.Sink.told c.run_whole-ended.new.out ≡ g.O.Sink.told c.args.out.now) [
-      | inl may ↦ absurd (has_not_written end (subst (λ (n : ℕ). IsTrue (writes_nothing n)) c.report_end.ensures.status none) may)
-      | inr same ↦ same
-    ]
+pub returns : goal.returns
+returns g c =
+    let call = c.all_words-ended in
+    let ended = call.result in
+    let said = c.report_end.ensures in
+    let all : AllWords g.L.Library g.K.Rack g.O.Sink g.K.Slot.Slot.shown c.args.words.now c.args.library.now call.new.library c.args.rack.now call.new.rack c.args.out.now call.new.out ended =
+    record { run = call.ensures.run; sim = call.ensures.sim; sweep = call.ensures.sweep } in
+    let by = said_by_status g.L.Library g.K.Rack g.O.Sink g.K.Slot.Slot.shown c.args.words.now c.args.library.now call.new.library c.args.rack.now call.new.rack c.args.out.now call.new.out ended c.report_end.result said.status all in
+    record {
+      outcome = (ended, (all, (said.status, said.line)));
+      done = by.done;
+      part = by.part;
+      nothing = by.nothing;
+      above = by.above;
+      errors_later = said.later;
+    }
