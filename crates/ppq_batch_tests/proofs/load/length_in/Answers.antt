@@ -1,10 +1,15 @@
-use Rattle.std.proofs.Common.{subst}
-use Rattle.ppq_outside.specs.Told.{OfLength}
-use Rattle.ppq_load.proofs.Reading.{length-is}
+use Rattle.std.proofs.Common.{◌≡◌, ℕ, List, Option, Some, None, length, subst}
+use Rattle.ppq_outside.specs.Told.{OfLength, TellsReply, length_of, bytes_or_none}
 use Rattle.ppq_batch_tests.proofs.load.length_in.Goals as goal
+
+-- the length that is told of a file is that of its bytes
+by : (said : ℕ) (bytes : Option (List ℕ)) → Some said ≡ length_of bytes → length (bytes_or_none bytes) ≡ said
+by said None e = cc
+by said (Some bytes) e = cc
 
 pub returns : goal.returns
 returns g c =
     let new = c.length.new.self in
-    let reply = subst (λ size. g.L.Library.replied new (OfLength c.args.name.now size)) c.in-Ok-Some.field-0-is c.in-Ok-Some.ensures.replied in
-    λ files is. length-is (g.L.Library.told new) (g.L.Library.replied new) (g.met.L.Library.truth new) files is c.args.name.now c.in-Ok-Some.said reply
+    let name = c.args.name.now in
+    let reply = subst (λ size. g.L.Library.replied new (OfLength name size)) c.in-Ok-Some.field-0-is c.in-Ok-Some.ensures.replied in
+    λ files is. (let P : Option (List ℕ → Option (List ℕ)) → Type 0 = λ told. TellsReply told (OfLength name (Some c.in-Ok-Some.said)) in by c.in-Ok-Some.said (files name) (subst P is (g.met.L.Library.truth new (OfLength name (Some c.in-Ok-Some.said)) reply)))
