@@ -6,7 +6,6 @@ use ppq_checked::UntrustedSlot;
 use ppq_outside::{Failed, Host};
 use std::alloc::Global;
 use std::fs::File;
-use std::os::fd::AsRawFd;
 use std::os::unix::fs::FileExt;
 use std::sync::Arc;
 
@@ -57,20 +56,6 @@ impl FileSlot {
         ensures { result ≡ min (self.now.number * self.now.size) (2 ^ 64 - 1) }
     {
         u64::from(self.number).saturating_mul(self.size as u64)
-    }
-
-    // Tells the system that the block is read soon, so that it reads it beside. What it answers is not looked at,
-    // since no read depends on it. A block past the largest offset is not announced.
-    fn announce(&self) {
-        let (Ok(from), Ok(size)) = (i64::try_from(self.offset()), i64::try_from(self.size)) else {
-            return;
-        };
-        let _answer = libc::posix_fadvise(
-            self.file.as_raw_fd(),
-            from,
-            size,
-            libc::POSIX_FADV_WILLNEED,
-        );
     }
 
     // Counts a failed call.
@@ -132,9 +117,8 @@ impl UntrustedSlot for FileSlot {
         }
     }
 
-    /// A system call. The system reads an announced block by itself.
+    /// Does nothing: std has no call that asks the system for a block which is read later.
     fn expect<H: Host>(&self, _rt: &H) -> bool {
-        self.announce();
-        true
+        false
     }
 }

@@ -46,8 +46,8 @@ pub trait Slot: Drop {
         ensures { IsRead result into.new (shown self.old) (shown self.new) };
 
     /// Tells the device that this block is read soon. It is no block transfer, and nothing that contracts see
-    /// changes. Returns whether the device reads the block by itself from now on: a file of the system does;
-    /// memory does not need to. Whoever waits for blocks looks at the answer to see whether a thread of its own
-    /// would gain time; no result depends on it.
+    /// changes. Returns whether the device reads the block by itself from now on: memory does not need to, and
+    /// std has no call by which a file could. Whoever waits for blocks looks at the answer to see whether a thread
+    /// of its own would gain time; no result depends on it.
     fn expect<H: Host>(&self, rt: &H) -> bool;
 }

@@ -323,11 +323,11 @@ fn a_folder_is_a_source_that_fails(rt: HostRuntime) {
 }
 
 #[test]
-fn a_block_of_a_file_reads_by_itself_what_is_expected(rt: HostRuntime) {
+fn a_block_of_a_file_is_read_only_when_it_is_asked_for(rt: HostRuntime) {
     let mut rack = FileRack::new();
     let mut block = block_of(&rt, rt.alloc(), &mut rack, "expected.device", 0);
     takes(&rt, &mut block, [5, 6, 7, 8], true);
-    assert!(rt; block.expect(&rt));
+    assert!(rt; !block.expect(&rt));
     gives(&rt, &mut block, Ok([5, 6, 7, 8]));
     counts(&rt, &block, 1, 1, 0);
     remove_file(&rt, "expected.device");
