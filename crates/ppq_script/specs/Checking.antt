@@ -3,7 +3,7 @@ use Rattle.std.specs.Prelude.{◌≡◌, ◌⊎◌, ℕ, ◌≤◌, Bool, ⊤, L
 use Rattle.std.specs.List.{AllZip, Any}
 use Rattle.ppq_outside.specs.Told.{Reply, OfLength, Rose, bytes_or_none}
 use Rattle.ppq_files.specs.declared.length.LengthFault.{LengthFault}
-use Rattle.ppq_files.specs.declared.length.LengthFault.TheVariants as length
+use Rattle.ppq_files.specs.declared.length.LengthFault.TheVariants as fault
 use Rattle.ppq_script.specs.declared.command.Command.{Command}
 use Rattle.ppq_script.specs.declared.command.Command.TheVariants.{Bulk}
 use Rattle.ppq_script.specs.declared.numbered.Numbered.{Numbered}
@@ -15,9 +15,9 @@ use Rattle.ppq_script.specs.Words.{Words}
 
 -- why there is no length of a file, as a fault of checking the command on a line
 abbrev pub check_refusal : ℕ → LengthFault → CheckFault
-check_refusal line length.Failed = ReadFault
-check_refusal line length.Memory = Memory
-check_refusal line length.NoRecords = BadLine line
+check_refusal line fault.Failed = ReadFault
+check_refusal line fault.Memory = Memory
+check_refusal line fault.NoRecords = BadLine line
 
 -- the first bad line of a script, by which files can be used
 abbrev pub bad_of : {R : Type 0} → (List ℕ → Bool) → Reading R → Option ℕ
