@@ -4,7 +4,7 @@ use Rattle.ppq_outside.specs.Told.{Reply, OfLength, OfRead, Rose}
 use Rattle.ppq_outside.specs.declared.fault.OutsideFault.{OutsideFault}
 use Rattle.ppq_outside.specs.declared.fault.OutsideFault.TheVariants as outside
 use Rattle.ppq_files.specs.declared.length.LengthFault.{LengthFault}
-use Rattle.ppq_files.specs.declared.length.LengthFault.TheVariants.{Failed, Memory, NoRecords}
+use Rattle.ppq_files.specs.declared.length.LengthFault.TheVariants.{Failed, Memory, Absent, NoRecords}
 
 -- the length of a file of records of a width: whole records, at most 2^32 of them
 abbrev pub IsRecordLength : ℕ → ℕ → Type 0
@@ -32,14 +32,24 @@ abbrev pub length_fault_of : OutsideFault → LengthFault
 length_fault_of outside.Failed = Failed
 length_fault_of outside.Memory = Memory
 
+-- the library replied that there is no file of this name
+abbrev pub IsAbsent : (Reply → Type 0) → List ℕ → Type 0
+IsAbsent replied name = replied (OfLength name None)
+
+-- the library replied of this name a length that is none of a record file
+abbrev pub HasPartRecords : ℕ → (Reply → Type 0) → List ℕ → Type 0
+HasPartRecords width replied name = (size : ℕ) × (replied (OfLength name (Some size)) × (is_record_length width size ≡ false))
+
 -- what a refusal says by the library's replies
 abbrev pub LengthRefusalIsRight : ℕ → (Reply → Type 0) → List ℕ → LengthFault → Type 0
 LengthRefusalIsRight width replied name Failed = ⊤
 LengthRefusalIsRight width replied name Memory = ⊤
-LengthRefusalIsRight width replied name NoRecords = HasNoRecords width replied name
+LengthRefusalIsRight width replied name Absent = IsAbsent replied name
+LengthRefusalIsRight width replied name NoRecords = HasPartRecords width replied name
 
 -- the library's count rose where it failed, and else stayed
 abbrev pub LengthFaultAfter : ℕ → ℕ → LengthFault → Type 0
 LengthFaultAfter before now Failed = Rose before now
 LengthFaultAfter before now Memory = now ≡ before
+LengthFaultAfter before now Absent = now ≡ before
 LengthFaultAfter before now NoRecords = now ≡ before

@@ -15,7 +15,9 @@ pub enum LengthFault {
     Failed,
     /// An allocation failed.
     Memory,
-    /// There is no such file, or it is not whole records, or it has more than 4,294,967,296 of them.
+    /// There is no such file.
+    Absent,
+    /// It is not whole records, or it has more than 4,294,967,296 of them.
     NoRecords,
 }
 
@@ -47,7 +49,7 @@ pub fn record_length<R: Record, H: Host, L: Library>(
     ensures counts { CountsBy LengthFaultAfter (L.faults library.old) (L.faults library.new) result }
 {
     match library.length(context.rt, context.alloc, name)? {
-        None => Err(LengthFault::NoRecords),
+        None => Err(LengthFault::Absent),
         Some(length) => {
             if is_of_records::<R>(length) {
                 Ok(length)

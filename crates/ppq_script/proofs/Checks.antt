@@ -5,6 +5,9 @@ use Rattle.std.specs.List.{AllZip}
 use Rattle.std.proofs.lemmas.Bool.{le-leb, eq-eqb}
 use Rattle.std.proofs.lemmas.List.Elements.{AllZip-get_or, length_all_zip}
 use Rattle.ppq_outside.specs.Told.{Reply, OfLength, Remembers, length_of, bytes_or_none}
+use Rattle.ppq_files.specs.declared.length.LengthFault.{LengthFault}
+use Rattle.ppq_files.specs.declared.length.LengthFault.TheVariants as fault
+use Rattle.ppq_files.specs.Lengths.{LengthRefusalIsRight}
 pub use Rattle.ppq_files.proofs.Truth.{AreTrue}
 use Rattle.ppq_script.specs.declared.command.Command.{Command}
 use Rattle.ppq_script.specs.declared.command.Command.TheVariants.{Push, Pop, Top, Size, Bulk, Gen, BulkPop, BulkPopLimit, Drain, BulkBegin, BulkPush, BulkEnd, LimitBegin, LimitPush, LimitTop, LimitPop, LimitEnd}
@@ -17,7 +20,7 @@ use Rattle.ppq_script.specs.Files.{file_in, name_at, NamesFile, HasRecords, IsRe
 use Rattle.ppq_script.specs.Reading.{Reading}
 use Rattle.ppq_script.specs.declared.check.CheckFault.{CheckFault}
 use Rattle.ppq_script.specs.declared.check.CheckFault.TheVariants.{BadLine, ReadFault, Memory}
-use Rattle.ppq_script.specs.Checking.{bad_of, IsSameFile, IsSameItem, IsAskedFile, IsAsked, with_size, with_sizes, ItemRefusalIsRight, CommandsRefusalIsRight, CheckRefusalIsRight, IsCheckAnswer}
+use Rattle.ppq_script.specs.Checking.{bad_of, IsSameFile, IsSameItem, IsAskedFile, IsAsked, with_size, with_sizes, check_refusal, ItemRefusalIsRight, CommandsRefusalIsRight, CheckRefusalIsRight, IsCheckAnswer}
 use Rattle.ppq_script.specs.Words.{Words}
 
 -- an item that was changed as R says
@@ -215,6 +218,14 @@ module _ {R : Type 0} (words : Words R) where
       let there : i < length ys = omega arith in
       let both : get_or ys i d ∷ drop (suc i) ys ≡ get_or xs i d ∷ drop (suc i) xs = sym (drop-cons ys i d there) ∙ left ∙ drop-cons xs i d below in
       cc
+
+  -- a refusal of a file's length is one by the command that names the file
+  pub item_refusal : (replied : Reply → Type 0) (names : List (List ℕ)) (item : Numbered R) (file : ℕ × ℕ) (why : LengthFault) → file_in item.command ≡ Some file
+      → LengthRefusalIsRight words.WIDTH replied (name_at names file.0) why → ItemRefusalIsRight words replied names item (check_refusal item.line why)
+  item_refusal replied names item file fault.Failed is refused = tt
+  item_refusal replied names item file fault.Memory is refused = tt
+  item_refusal replied names item file fault.Absent is refused = (refl, subst (NoFile words replied names) (sym is) (None, (refused, refl)))
+  item_refusal replied names item file fault.NoRecords is refused = (refl, subst (NoFile words replied names) (sym is) (Some refused.0, refused.1))
 
   -- a refusal by a command is one by the commands
   pub commands_refusal : (replied : Reply → Type 0) (names : List (List ℕ)) (i : ℕ) (old new : List (Numbered R)) (d : Numbered R) (fault : CheckFault) → i < length old → AllZip (IsAsked words replied names) (take i old) (take i new)

@@ -17,6 +17,7 @@ use Rattle.ppq_script.specs.Words.{Words}
 abbrev pub check_refusal : ℕ → LengthFault → CheckFault
 check_refusal line fault.Failed = ReadFault
 check_refusal line fault.Memory = Memory
+check_refusal line fault.Absent = BadLine line
 check_refusal line fault.NoRecords = BadLine line
 
 -- the first bad line of a script, by which files can be used

@@ -31,7 +31,7 @@ fn refused(fault: LengthFault, line: u32) -> CheckFault
     match fault {
         LengthFault::Failed => CheckFault::ReadFault,
         LengthFault::Memory => CheckFault::Memory,
-        LengthFault::NoRecords => CheckFault::BadLine { line },
+        LengthFault::Absent | LengthFault::NoRecords => CheckFault::BadLine { line },
     }
 }
 
