@@ -1,0 +1,4 @@
+pub mod Halves
+pub mod Places
+pub mod Rounds
+pub mod Gone
