@@ -1,6 +1,6 @@
 -- What a status says of the outcome that has it, whatever the command is.
 use Rattle.std.proofs.Common.{◌≡◌, ◌∙◌, ℕ, Bool, true, false, List, [], ◌∷◌, Option, None, refl, sym, ap, subst, inl, inr}
-use Rattle.std.specs.Prelude.{if◌then◌else◌, codes, bytes_eq, IfSome, IsTrue, String}
+use Rattle.std.specs.Prelude.{◌⊎◌, if◌then◌else◌, codes, bytes_eq, IfSome, IsTrue, String}
 use Rattle.std.specs.declared.alloc.Global.{Global}
 use Rattle.std.proofs.lemmas.Slice.Eq.{bytes_eq-Decides}
 use Rattle.ppq_words.specs.ppq_outside.Shown.{Shown}
@@ -9,10 +9,12 @@ use Rattle.ppq_words.specs.ppq_outside.declared.rack.Rack.{Ghosts as RackShows}
 use Rattle.ppq_words.specs.ppq_outside.declared.sink.Sink.{Ghosts as SinkShows}
 use Rattle.ppq_words.specs.Reading.{Reading, reading_of, texts_of}
 use Rattle.ppq_words.specs.Uses.{Text}
-use Rattle.ppq_engine.specs.declared.end.Ended.{Ended}
+use Rattle.ppq_agenda.specs.ppq_engine.declared.end.Ended.{Ended}
+use Rattle.ppq_agenda.specs.ppq_handler.Roster.{Place}
 use Rattle.ppq_cli.specs.declared.subcommand.Subcommand.{Subcommand}
 use Rattle.ppq_cli.specs.declared.subcommand.Subcommand.TheVariants.{Run, Sim, Sweep}
 use Rattle.ppq_cli.specs.AllWords.{subcommand_of, AllWords}
+use Rattle.ppq_cli.specs.Outside.{MayWrite}
 use Rattle.ppq_cli.specs.RunWords.{reading, OfWords, OfScript, WritesAll, WritesPart, IsTooLarge, load_by, RunsWords}
 use Rattle.ppq_cli.specs.Status.{status_of, writes_nothing}
 use Rattle.ppq_cli.proofs.ByStatus.{is_done, is_full, has_not_written}
@@ -41,16 +43,20 @@ pub record SaidByStatus {L K O S : Type 0} (library : LibraryShows L) (rack : Ra
   pub above : status ≡ 6 → rack.tells old_rack → OfScript library.told old_library words (IsTooLarge load_by)
 
 module _
-    {L K O S : Type 0} (library : LibraryShows L) (rack : RackShows K S) (sink : SinkShows O) (shown : S → Shown) (words : List (String Global))
+    {L K O S : Type 0} (library : LibraryShows L) (rack : RackShows K S) (sink : SinkShows O) (shown : S → Shown) (words : List (String Global)) (places : List Place)
     (old_library new_library : L) (old_rack new_rack : K) (old_out new_out : O) (ended : Ended S) (status : ℕ) (numbered : status ≡ status_of ended.end) where
+  -- nothing was written where the status says so
+  unwritten : MayWrite ended.end ⊎ (sink.told new_out ≡ sink.told old_out) → IsTrue (writes_nothing status) → sink.told new_out ≡ sink.told old_out
+  unwritten nothing none = elim nothing as (λ _. sink.told new_out ≡ sink.told old_out) [
+    | inl may ↦ absurd (has_not_written ended.end (subst (λ (n : ℕ). IsTrue (writes_nothing n)) numbered none) may)
+    | inr same ↦ same
+  ]
+
   of_run : RunsWords library rack sink shown words old_library new_library old_rack new_rack old_out new_out ended → SaidByStatus library rack sink words old_library old_rack old_out new_out status
   of_run e = record {
     done = λ is. e.written.done (is_done ended.end (sym numbered ∙ is));
     part = e.written.part;
-    nothing = λ none. elim e.written.nothing as (λ _. sink.told new_out ≡ sink.told old_out) [
-      | inl may ↦ absurd (has_not_written ended.end (subst (λ (n : ℕ). IsTrue (writes_nothing n)) numbered none) may)
-      | inr same ↦ same
-    ];
+    nothing = unwritten e.written.nothing;
     above = λ is. e.above (is_full ended.end (sym numbered ∙ is));
   }
 
@@ -63,9 +69,9 @@ module _
     above = λ is tells. of_none words _ unread;
   }
 
-  pub said_by_status : AllWords library rack sink shown words old_library new_library old_rack new_rack old_out new_out ended → SaidByStatus library rack sink words old_library old_rack old_out new_out status
+  pub said_by_status : AllWords library rack sink shown words places old_library new_library old_rack new_rack old_out new_out ended → SaidByStatus library rack sink words old_library old_rack old_out new_out status
   said_by_status all = by_command (subcommand_of (texts_of words)) refl where
     by_command : (command : Subcommand) → subcommand_of (texts_of words) ≡ command → SaidByStatus library rack sink words old_library old_rack old_out new_out status
     by_command Run is = of_run (all.run is)
-    by_command Sim is = of_other (unread_by Sim (λ e. cc) (texts_of words) is) (λ none. ap sink.told ((all.sim is).unasked refl).1.1)
+    by_command Sim is = of_other (unread_by Sim (λ e. cc) (texts_of words) is) (unwritten (all.sim is).written.nothing)
     by_command Sweep is = of_other (unread_by Sweep (λ e. cc) (texts_of words) is) (λ none. ap sink.told ((all.sweep is).unasked refl).1.1)

@@ -18,27 +18,29 @@ use Rattle.ppq_words.specs.ppq_script.Lines.{names_of, numbered_of}
 use Rattle.ppq_words.specs.ppq_script.Checking.{with_sizes}
 use Rattle.ppq_words.specs.ppq_script.declared.form.Form.{Form}
 use Rattle.ppq_words.specs.ppq_script.Reading.{Reading, command_list}
-use Rattle.ppq_words.specs.Reading.{Reading as Arguments, sizes_at}
-use Rattle.ppq_engine.specs.ppq_load.Given.{records_of}
-use Rattle.ppq_engine.specs.Loads.{begins_limit}
-use Rattle.ppq_engine.specs.Refusal.{HasRoom, HasNoRoom}
-use Rattle.ppq_engine.specs.Output.{AreFilesOf, KeepsLengths, given_of}
-use Rattle.ppq_engine.specs.Running.{HasChanged}
-use Rattle.ppq_engine.specs.Outcome.{TakesBeforeFile, TakesBeforeLoad, FaultBeforeFile}
-use Rattle.ppq_engine.specs.Ends.{Class, Refused, HasBegun, IsRefusal, class_of, budget_refusal, BeganCommands, BeganOrRefused, NoFault}
-use Rattle.ppq_engine.specs.declared.end.End.{End}
-use Rattle.ppq_engine.specs.declared.end.End.TheVariants.{Done, BadLine, ReadFault, WriteFault, DeviceFault, NoFreeBlock, BudgetTooSmall, Memory, FileChanged, NoDevice, NoScript, ScriptTooLong}
-use Rattle.ppq_engine.proofs.Lengths.{keeps_lengths}
+use Rattle.ppq_words.specs.Given.{Given}
+use Rattle.ppq_words.specs.Reading.{Reading as Arguments, sizes_at, sizes_for}
+use Rattle.ppq_agenda.specs.ppq_engine.ppq_load.Given.{records_of}
+use Rattle.ppq_agenda.specs.ppq_engine.Loads.{begins_limit}
+use Rattle.ppq_agenda.specs.ppq_engine.Refusal.{HasRoom, HasNoRoom}
+use Rattle.ppq_agenda.specs.ppq_engine.Output.{AreFilesOf, KeepsLengths, given_of}
+use Rattle.ppq_agenda.specs.ppq_engine.Running.{HasChanged}
+use Rattle.ppq_agenda.specs.ppq_engine.Outcome.{TakesBeforeFile, TakesBeforeLoad, FaultBeforeFile}
+use Rattle.ppq_agenda.specs.ppq_engine.Ends.{Class, Refused, HasBegun, IsRefusal, class_of, budget_refusal, BeganCommands, BeganOrRefused, NoFault}
+use Rattle.ppq_agenda.specs.ppq_engine.declared.end.End.{End}
+use Rattle.ppq_agenda.specs.ppq_engine.declared.end.End.TheVariants.{Done, BadLine, ReadFault, WriteFault, DeviceFault, NoFreeBlock, BudgetTooSmall, Memory, FileChanged, NoDevice, NoScript, ScriptTooLong}
+use Rattle.ppq_agenda.proofs.ppq_engine.Lengths.{keeps_lengths}
+use Rattle.ppq_cli.specs.Budget.{need_for, refusal_for}
 use Rattle.ppq_cli.specs.Load.{load_end, check_end, script_kinds}
 use Rattle.ppq_cli.specs.RunWords.{refusal_of_budget, refusal_of_bad, refusal_of_bytes, refusal_of_file, script_commands, script_given, IsTried, IsGivenUp, IsAnswer, IsTriedOrRefusal, About, Measure, OfBytes, OfFile, IsTooLarge, EndsWell}
 use Rattle.ppq_cli.specs.Outside.{MayWrite}
 use Rattle.ppq_cli.specs.RunOver.{RunWrites}
 use Rattle.ppq_cli.specs.Device.{IsSurelyRun, AreBlocks}
-use Rattle.ppq_cli.specs.Replies.{Files, need_of, IsScript, IsRefused, OfGood, RefusalOf, RunOf, WroteNothing, HasRunToFile, HasRunToLoad, FaultToFile}
+use Rattle.ppq_cli.specs.Replies.{Files, IsScript, IsRefused, OfGood, RefusalOf, RunOf, WroteNothing, HasRunToFile, HasRunToLoad, FaultToFile}
 use Rattle.ppq_cli.specs.Types.{typed, type_of}
 
 -- the three ways of a script that was read, for a budget with this fixed part: it is too small, the script was tried, or memory was wanting
-abbrev Ways : ℕ → ℕ → ℕ → End → Type 0
+abbrev pub Ways : ℕ → ℕ → ℕ → End → Type 0
 Ways memory fixed need end = ((memory < fixed) × (end ≡ BudgetTooSmall need)) ⊎ (((fixed ≤ memory) × IsTried end) ⊎ (end ≡ Memory))
 
 ways_by : (small : Bool) (memory fixed need : ℕ) (end : End) → (small ≡ true → memory < fixed) → (small ≡ false → fixed ≤ memory)
@@ -59,6 +61,17 @@ reaches memory fixed need end run (inl (h, is)) = absurd (subst BeganCommands is
 reaches memory fixed need end run (inr (inl (h, tried))) = h
 reaches memory fixed need end run (inr (inr is)) = absurd (subst BeganCommands is run)
 
+-- the same by what the end says of such a budget
+module _ (width : ℕ) (given : Given) where
+  pub ways : (end : End) → IsTriedOrRefusal (refusal_for width given) end → Ways (sizes_for width given).memory (fixed_of (sizes_for width given)) (need_for width given) end
+  ways end answer =
+      let memory = (sizes_for width given).memory in
+      let fixed = fixed_of (sizes_for width given) in
+      ways_by (nat_lt memory fixed) memory fixed (need_for width given) end (ltb-true memory fixed) (ltb-false memory fixed) answer
+
+  pub enough : (end : End) → BeganCommands end → IsTriedOrRefusal (refusal_for width given) end → fixed_of (sizes_for width given) ≤ (sizes_for width given).memory
+  enough end run answer = reaches (sizes_for width given).memory (fixed_of (sizes_for width given)) (need_for width given) end run (ways end answer)
+
 -- where nothing was begun, and memory was not wanting, the sink took nothing
 unwritten : (X : Type 0) (end : End) → (BeganCommands end → ⊥) → (end ≡ Memory → ⊥) → MayWrite end ⊎ X → X
 unwritten X end began memory (inl (inl run)) = absurd (began run)
@@ -69,15 +82,6 @@ idle : (before now : Option (List ℕ)) (end : End) → (IsSurelyRun end → ⊥
 idle before now end maybe began memory nothing = record { maybe = maybe; same = unwritten (now ≡ before) end began memory nothing }
 
 module _ {R : Type 0} (words : Words R) (told : Option Files) (replied : Reply → Type 0) (r : Arguments) (bytes : List ℕ) where
-  ways : (end : End) → IsTriedOrRefusal (refusal_of_budget words r) end → Ways (sizes_at words.WIDTH r).memory (fixed_of (sizes_at words.WIDTH r)) (need_of words r) end
-  ways end answer =
-      let memory = (sizes_at words.WIDTH r).memory in
-      let fixed = fixed_of (sizes_at words.WIDTH r) in
-      ways_by (nat_lt memory fixed) memory fixed (need_of words r) end (ltb-true memory fixed) (ltb-false memory fixed) answer
-
-  enough : (end : End) → BeganCommands end → IsTriedOrRefusal (refusal_of_budget words r) end → fixed_of (sizes_at words.WIDTH r) ≤ (sizes_at words.WIDTH r).memory
-  enough end run answer = reaches (sizes_at words.WIDTH r).memory (fixed_of (sizes_at words.WIDTH r)) (need_of words r) end run (ways end answer)
-
   run_refuses : (end : End) → BeganCommands end → ((line said got : ℕ) → end ≡ FileChanged line said got → RefusalOf words told replied r bytes (FileChanged line said got)) → RefusalOf words told replied r bytes end
   run_refuses (BadLine line) run changed = absurd run
   run_refuses (BudgetTooSmall need) run changed = absurd run
@@ -92,7 +96,7 @@ module _ {R : Type 0} (words : Words R) (told : Option Files) (replied : Reply �
   loaded_refusal script end is answer changed =
       let good : OfGood words told replied r bytes (λ script. Unit {0}) = (script, (is, tt)) in
       let P : End → Type 0 = λ e. RefusalOf words told replied r bytes e in
-      elim (ways end answer) as (λ _. RefusalOf words told replied r bytes end) [
+      elim (ways words.WIDTH r.given end answer) as (λ _. RefusalOf words told replied r bytes end) [
         | inl (h, e) ↦ subst P (sym e) ((h, refl), good)
         | inr (inl (h, inl run)) ↦ run_refuses end run (λ line said got e. (h, (script, (is, changed line said got e))))
         | inr (inl (h, inr e)) ↦ subst P (sym e) (h, good)
@@ -104,17 +108,17 @@ module _ {R : Type 0} (words : Words R) (told : Option Files) (replied : Reply �
       (tells : Type 0) (script : Reading R) (before now : Option (List ℕ)) (blocks : List Shown) (end : End)
       → IsScript words told replied bytes r.given.numbers.workers script → IsTriedOrRefusal (refusal_of_budget words r) end → RunWrites words tells told before now r script blocks end
       → WroteNothing before now end ⊎ RunOf words tells told replied r bytes before now blocks end
-  loaded_run tells script before now blocks Done is answer w = inr (enough Done tt answer, (script, (is, w.done refl)))
-  loaded_run tells script before now blocks ReadFault is answer w = inr (enough ReadFault tt answer, (script, (is, w.file)))
-  loaded_run tells script before now blocks WriteFault is answer w = inr (enough WriteFault tt answer, (script, (is, w.part)))
-  loaded_run tells script before now blocks (DeviceFault number) is answer w = inr (enough (DeviceFault number) tt answer, (script, (is, w.part)))
-  loaded_run tells script before now blocks NoFreeBlock is answer w = inr (enough NoFreeBlock tt answer, (script, (is, w.full refl)))
+  loaded_run tells script before now blocks Done is answer w = inr (enough words.WIDTH r.given Done tt answer, (script, (is, w.done refl)))
+  loaded_run tells script before now blocks ReadFault is answer w = inr (enough words.WIDTH r.given ReadFault tt answer, (script, (is, w.file)))
+  loaded_run tells script before now blocks WriteFault is answer w = inr (enough words.WIDTH r.given WriteFault tt answer, (script, (is, w.part)))
+  loaded_run tells script before now blocks (DeviceFault number) is answer w = inr (enough words.WIDTH r.given (DeviceFault number) tt answer, (script, (is, w.part)))
+  loaded_run tells script before now blocks NoFreeBlock is answer w = inr (enough words.WIDTH r.given NoFreeBlock tt answer, (script, (is, w.full refl)))
   loaded_run tells script before now blocks Memory is answer w =
       elim (w.memory refl) as (λ _. WroteNothing before now Memory ⊎ OfGood words told replied r bytes (HasRunToLoad words r.form tells told before now)) [
         | inl same ↦ inl (record { maybe = λ run. run; same = same })
         | inr ran ↦ inr (script, (is, ran))
       ]
-  loaded_run tells script before now blocks (FileChanged line said got) is answer w = inr (enough (FileChanged line said got) tt answer, (script, (is, w.file)))
+  loaded_run tells script before now blocks (FileChanged line said got) is answer w = inr (enough words.WIDTH r.given (FileChanged line said got) tt answer, (script, (is, w.file)))
   loaded_run tells script before now blocks end is answer w = inl (idle before now end (λ run. run) (λ run. run) (λ e. cc) w.nothing)
 
 -- the answer for a script that was read
@@ -241,7 +245,7 @@ answer_of_bytes (Some files) r bytes end short is answer =
     subst P (sym same) answer
 
 -- where the end names no fault and there is room, a script without a refusal is done, or memory was wanting
-completed :
+pub completed :
     (files : Files) (sizes : Numbers) (limited : Bool) (load : ℕ) (end : End) → IsTried end ⊎ IsGivenUp end → ((line said got : ℕ) → end ≡ FileChanged line said got → Some files ≡ None)
     → (end ≡ NoFreeBlock → HasNoRoom sizes limited load) → NoFault end → HasRoom sizes limited load → (end ≡ Done) ⊎ (end ≡ Memory)
 completed files sizes limited load end (inr (inl memory)) changed above fault room = inr memory

@@ -6,10 +6,10 @@ use Rattle.ppq_words.specs.ppq_outside.Told.{Remembers, Rose}
 use Rattle.ppq_words.specs.ppq_outside.declared.library.Library.{Ghosts as LibraryShows}
 use Rattle.ppq_words.specs.ppq_outside.declared.rack.Rack.{Ghosts as RackShows}
 use Rattle.ppq_words.specs.ppq_outside.declared.sink.Sink.{Ghosts as SinkShows}
-use Rattle.ppq_engine.specs.Ends.{NoFault}
-use Rattle.ppq_engine.specs.declared.end.End.{End}
-use Rattle.ppq_engine.specs.declared.end.End.TheVariants.{Done, DeviceFault, NoFreeBlock}
-use Rattle.ppq_engine.specs.declared.end.Ended.{Ended}
+use Rattle.ppq_agenda.specs.ppq_engine.Ends.{NoFault}
+use Rattle.ppq_agenda.specs.ppq_engine.declared.end.End.{End}
+use Rattle.ppq_agenda.specs.ppq_engine.declared.end.End.TheVariants.{Done, DeviceFault, NoFreeBlock}
+use Rattle.ppq_agenda.specs.ppq_engine.declared.end.Ended.{Ended}
 use Rattle.ppq_cli.specs.Device.{IsSurelyRun}
 use Rattle.ppq_cli.specs.Outside.{IsHigher, Faults, OutsideKept}
 use Rattle.ppq_cli.proofs.Blocks.{made_nothing}
@@ -34,7 +34,7 @@ same_faults Rises library rack sink end quiet = record {
 pub rose_below : (before now : ℕ) → before < 2 ^ 63 → Rose before now → before < now
 rose_below before now small rose = omega (arith, small, rose)
 
-higher_faults : (library library_now rack rack_now sink sink_now : ℕ) (end : End) → library < 2 ^ 63 → rack < 2 ^ 63 → sink < 2 ^ 63 → Faults Rose library library_now rack rack_now sink sink_now end → Faults IsHigher library library_now rack rack_now sink sink_now end
+pub higher_faults : (library library_now rack rack_now sink sink_now : ℕ) (end : End) → library < 2 ^ 63 → rack < 2 ^ 63 → sink < 2 ^ 63 → Faults Rose library library_now rack rack_now sink sink_now end → Faults IsHigher library library_now rack rack_now sink sink_now end
 higher_faults library library_now rack rack_now sink sink_now end few_library few_rack few_sink f = record {
   read = λ is. rose_below library library_now few_library (f.read is);
   write = λ is. rose_below sink sink_now few_sink (f.write is);

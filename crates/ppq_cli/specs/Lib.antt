@@ -1,11 +1,15 @@
 pub mod AllWords
+pub mod Budget
 pub mod Device
+pub mod DeviceFor
 pub mod Load
 pub mod Outside
 pub mod Replies
 pub mod Report
 pub mod RunOver
 pub mod RunWords
+pub mod SimOver
+pub mod SimWords
 pub mod Status
 pub mod Transfers
 pub mod Twice

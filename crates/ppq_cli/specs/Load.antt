@@ -1,15 +1,17 @@
--- How loading a script and reading it end.
+-- How loading a script and reading it end, and asking for the length of an agenda.
 use Rattle.std.specs.Prelude.{◌≡◌, ℕ, ◌≤◌, List, Result, OnOk, IfErr, IsErrOf}
 use Rattle.ppq_files.specs.declared.whole.WholeFault.{WholeFault}
 use Rattle.ppq_files.specs.declared.whole.WholeFault.TheVariants.{Failed, Memory, Absent, TooLong, Ended}
+use Rattle.ppq_files.specs.declared.length.LengthFault.{LengthFault}
+use Rattle.ppq_files.specs.declared.length.LengthFault.TheVariants as lengths
 use Rattle.ppq_words.specs.ppq_outside.Told.{Rose}
 use Rattle.ppq_words.specs.ppq_script.Words.{Words}
 use Rattle.ppq_words.specs.ppq_script.Lines.{LineKind, lines_of, kinds_of}
 use Rattle.ppq_words.specs.ppq_script.declared.check.CheckFault.{CheckFault}
 use Rattle.ppq_words.specs.ppq_script.declared.check.CheckFault.TheVariants as check
-use Rattle.ppq_engine.specs.Ends.{NoFault}
-use Rattle.ppq_engine.specs.declared.end.End.{End}
-use Rattle.ppq_engine.specs.declared.end.End.TheVariants as end
+use Rattle.ppq_agenda.specs.ppq_engine.Ends.{NoFault}
+use Rattle.ppq_agenda.specs.ppq_engine.declared.end.End.{End}
+use Rattle.ppq_agenda.specs.ppq_engine.declared.end.End.TheVariants as end
 
 -- what each line of a script of these bytes is where it stands, for so many workers, if it is about such records
 abbrev pub script_kinds : {R : Type 0} → Words R → List ℕ → ℕ → List (LineKind R)
@@ -22,6 +24,13 @@ load_end Memory = end.Memory
 load_end Absent = end.NoScript
 load_end TooLong = end.ScriptTooLong
 load_end (Ended said got) = end.FileChanged 0 said got
+
+-- why there is no length of an agenda, as an end
+abbrev pub length_end : LengthFault → End
+length_end lengths.Failed = end.ReadFault
+length_end lengths.Memory = end.Memory
+length_end lengths.Absent = end.NoScript
+length_end lengths.NoRecords = end.BadAgenda
 
 -- a fault of checking a script's files as an end
 abbrev pub check_end : CheckFault → End

@@ -1,5 +1,5 @@
 -- What a library replied of a file, and how a run ends for it. It is said of every library, also of one that does not tell.
-use Rattle.std.specs.Prelude.{◌≡◌, ◌⊎◌, ℕ, ◌<◌, ◌≤◌, List, take, slice_get, Option, Some, None, IfSome, IsTrue, ⊤}
+use Rattle.std.specs.Prelude.{◌≡◌, ◌⊎◌, ℕ, ◌≤◌, List, take, slice_get, Option, Some, None, IfSome, IsTrue, ⊤}
 use Rattle.std.specs.List.{AllZip}
 use Rattle.ppq_words.specs.ppq_outside.Shown.{Shown}
 use Rattle.ppq_words.specs.ppq_outside.Told.{Reply, RepliesOnly, TakesAll, TakesPart}
@@ -17,16 +17,17 @@ use Rattle.ppq_words.specs.ppq_script.declared.check.CheckFault.{CheckFault}
 use Rattle.ppq_words.specs.ppq_script.declared.check.CheckFault.TheVariants as check
 use Rattle.ppq_words.specs.ppq_script.declared.form.Form.{Form}
 use Rattle.ppq_words.specs.ppq_script.Reading.{Reading, command_list}
-use Rattle.ppq_words.specs.Reading.{Reading as Arguments, in_unit, sizes_at}
-use Rattle.ppq_engine.specs.Ends.{Class, Finished, Refused, Unmade, Unread, Broken, Shrunk, Full, GaveUp, class_of, IsRefusal, IfFile}
-use Rattle.ppq_engine.specs.Files.{IsReadInScript}
-use Rattle.ppq_engine.specs.Loads.{most_of, least_of, begins_limit, FitsWritten, IsLoad}
-use Rattle.ppq_engine.specs.Output.{AreFilesOf, given_of, output_of, load_of, crest_of, TakesWithin}
-use Rattle.ppq_engine.specs.Refusal.{HasNoRoom}
-use Rattle.ppq_engine.specs.Running.{HasChanged}
-use Rattle.ppq_engine.specs.Work.{work_of}
-use Rattle.ppq_engine.specs.declared.end.End.{End}
-use Rattle.ppq_engine.specs.declared.end.End.TheVariants.{BadLine, BudgetTooSmall, FileChanged, NoDevice}
+use Rattle.ppq_words.specs.Reading.{Reading as Arguments, sizes_at}
+use Rattle.ppq_agenda.specs.ppq_engine.Ends.{Class, Finished, Refused, Unmade, Unread, Broken, Shrunk, Full, GaveUp, class_of, IsRefusal, IfFile}
+use Rattle.ppq_agenda.specs.ppq_engine.Files.{IsReadInScript}
+use Rattle.ppq_agenda.specs.ppq_engine.Loads.{most_of, least_of, begins_limit, FitsWritten, IsLoad}
+use Rattle.ppq_agenda.specs.ppq_engine.Output.{AreFilesOf, given_of, output_of, load_of, crest_of, TakesWithin}
+use Rattle.ppq_agenda.specs.ppq_engine.Refusal.{HasNoRoom}
+use Rattle.ppq_agenda.specs.ppq_engine.Running.{HasChanged}
+use Rattle.ppq_agenda.specs.ppq_engine.Work.{work_of}
+use Rattle.ppq_agenda.specs.ppq_engine.declared.end.End.{End}
+use Rattle.ppq_agenda.specs.ppq_engine.declared.end.End.TheVariants.{BadLine, BudgetTooSmall, FileChanged, NoDevice}
+use Rattle.ppq_cli.specs.Budget.{need_for, IsBelowNeed}
 use Rattle.ppq_cli.specs.Device.{IsSurelyRun}
 use Rattle.ppq_cli.specs.Load.{check_end, load_end, script_kinds}
 use Rattle.ppq_cli.specs.Transfers.{TransfersWithin, AreUntouched}
@@ -68,11 +69,11 @@ IsRefused words told replied bytes workers check.Memory = ⊤
 
 -- the fixed part of the budget for such records, in the unit in which the budget is given
 abbrev pub need_of : {R : Type 0} → Words R → Arguments → ℕ
-need_of words r = in_unit words.WIDTH r.given.unit (fixed_of (sizes_at words.WIDTH r))
+need_of words r = need_for words.WIDTH r.given
 
 -- the budget is below its fixed part, which is so much
 abbrev pub IsTooSmall : {R : Type 0} → Words R → Arguments → ℕ → Type 0
-IsTooSmall words r need = ((sizes_at words.WIDTH r).memory < fixed_of (sizes_at words.WIDTH r)) × (need ≡ need_of words r)
+IsTooSmall words r need = IsBelowNeed words.WIDTH r.given need
 
 -- What follows is of a script of these bytes, by what the library tells and replied, and by the arguments.
 

@@ -1,13 +1,12 @@
 -- The words of the contract of `run_words`, in the order of its clauses; those that speak of the outside alone are in `Outside`. `run_over`, `run_and_report` and `run_twice` use them too.
 use Rattle.std.specs.Prelude.{◌≡◌, ◌⊎◌, ℕ, List, length, Option, Some, None, if◌then◌else◌, IfSome, nat_lt, MatchOption, map, String}
 use Rattle.std.specs.declared.alloc.Global.{Global}
-use Rattle.ppq_engine.specs.ppq_load.Given.{records_of}
+use Rattle.ppq_agenda.specs.ppq_engine.ppq_load.Given.{records_of}
 use Rattle.ppq_words.specs.ppq_outside.Shown.{Shown}
 use Rattle.ppq_words.specs.ppq_outside.Told.{Reply, TakesAll, TakesPart, bytes_or_none}
 use Rattle.ppq_words.specs.ppq_outside.declared.library.Library.{Ghosts as LibraryShows}
 use Rattle.ppq_words.specs.ppq_outside.declared.rack.Rack.{Ghosts as RackShows}
 use Rattle.ppq_words.specs.ppq_outside.declared.sink.Sink.{Ghosts as SinkShows}
-use Rattle.ppq_words.specs.ppq_budget.Sizes.{fixed_of}
 use Rattle.ppq_words.specs.ppq_script.Words.{Words}
 use Rattle.ppq_words.specs.ppq_script.declared.command.Command.{Command}
 use Rattle.ppq_words.specs.ppq_script.Lines.{numbered_of, names_of, first_bad_by}
@@ -15,17 +14,18 @@ use Rattle.ppq_words.specs.ppq_script.Files.{name_at, is_usable}
 use Rattle.ppq_words.specs.ppq_script.Checking.{with_sizes}
 use Rattle.ppq_words.specs.Reading.{Reading, reading_of, texts_of, sizes_at}
 use Rattle.ppq_words.specs.Strays.{may_run}
-use Rattle.ppq_engine.specs.declared.end.End.{End}
-use Rattle.ppq_engine.specs.declared.end.End.TheVariants.{Done, BadLine, Usage, ReadFault, NoFreeBlock, BudgetTooSmall, Memory, NoDevice, NoScript, ScriptTooLong}
-use Rattle.ppq_engine.specs.declared.end.Ended.{Ended}
-use Rattle.ppq_engine.specs.Output.{output_of, load_of, crest_of, TakesWithin}
-use Rattle.ppq_engine.specs.Loads.{most_of, least_of, begins_limit, FitsWritten}
-use Rattle.ppq_engine.specs.Refusal.{HasRoom, HasNoRoom}
-use Rattle.ppq_engine.specs.Ends.{BeganCommands, NoFault}
-use Rattle.ppq_engine.specs.Work.{work_of}
+use Rattle.ppq_agenda.specs.ppq_engine.declared.end.End.{End}
+use Rattle.ppq_agenda.specs.ppq_engine.declared.end.End.TheVariants.{Done, BadLine, Usage, ReadFault, NoFreeBlock, Memory, NoDevice, NoScript, ScriptTooLong}
+use Rattle.ppq_agenda.specs.ppq_engine.declared.end.Ended.{Ended}
+use Rattle.ppq_agenda.specs.ppq_engine.Output.{output_of, load_of, crest_of, TakesWithin}
+use Rattle.ppq_agenda.specs.ppq_engine.Loads.{most_of, least_of, begins_limit, FitsWritten}
+use Rattle.ppq_agenda.specs.ppq_engine.Refusal.{HasRoom, HasNoRoom}
+use Rattle.ppq_agenda.specs.ppq_engine.Ends.{BeganCommands, NoFault}
+use Rattle.ppq_agenda.specs.ppq_engine.Work.{work_of}
+use Rattle.ppq_cli.specs.Budget.{refusal_for}
 use Rattle.ppq_cli.specs.Outside.{WritesText, IsHigher, OutsideKept, Unreadable}
 use Rattle.ppq_cli.specs.Load.{script_kinds}
-use Rattle.ppq_cli.specs.Replies.{Files, need_of, RefusalIsRight, RunIsRight, TransfersAreRight, AsksAreRight}
+use Rattle.ppq_cli.specs.Replies.{Files, RefusalIsRight, RunIsRight, TransfersAreRight, AsksAreRight}
 use Rattle.ppq_cli.specs.Transfers.{TransfersWithin}
 use Rattle.ppq_cli.specs.Types.{RecordType, type_of}
 
@@ -126,7 +126,7 @@ AreTransfersRight words told library replied later shown ended = OfWords words (
 -- the answer that refuses a script before its device is made, and none to another: first that it is not there, then that it is too
 -- long, then its first line that is bad or names a file that cannot be used, then that the budget is too small
 abbrev pub refusal_of_budget : {R : Type 0} → Words R → Reading → Option End
-refusal_of_budget words r = if nat_lt (sizes_at words.WIDTH r).memory (fixed_of (sizes_at words.WIDTH r)) then Some (BudgetTooSmall (need_of words r)) else None
+refusal_of_budget words r = refusal_for words.WIDTH r.given
 
 abbrev pub refusal_of_bad : {R : Type 0} → Words R → Option ℕ → Reading → Option End
 refusal_of_bad words None r = refusal_of_budget words r

@@ -1,7 +1,8 @@
 //! The program as a library: what `ppq` does, with the outside handed in.
 //!
 //! [`all_words`] does all that the program does; [`run_and_report`] reports its outcome too, and returns the status
-//! with which the program ends. The only command so far is that of a script, which is [`run_words`].
+//! with which the program ends. A script is executed by [`run_words`]; the command `sim` simulates an agenda with a
+//! roster of handlers.
 //!
 //! Every call returns, over any script, files and device: it waits for no other thread but those that it starts and
 //! joins, and these are proved to return too.
@@ -13,11 +14,14 @@ mod checked;
 mod context;
 mod device;
 mod kinds;
+mod lengths;
 mod load;
+mod new_device;
 mod program;
 mod reading;
 mod reports;
 mod run;
+mod sim;
 mod statuses;
 mod subcommand;
 mod top_call;
@@ -27,10 +31,10 @@ mod whole;
 pub use all::all_words;
 pub use arguments::words_of;
 pub use checked::run_checked;
+pub use ppq_agenda::{CountHandler, End, Ended, ForkHandler, Handler, MortalHandler, RelayHandler};
 pub use ppq_checked::CheckedRack;
 pub use ppq_edge::{DirLibrary, FileRack, NamedFiles, StdSink};
-pub use ppq_engine::{End, Ended};
-pub use ppq_words::OpenGate;
+pub use ppq_words::{Host, OpenGate};
 pub use program::{report_end, run_and_report};
 pub use reports::report;
 pub use statuses::status;

@@ -2,7 +2,7 @@
 ghost use Rattle.std.specs.Prelude.{◌≡◌};
 ghost use Rattle.ppq_cli.specs.Load.{load_end};
 
-use ppq_engine::End;
+use ppq_agenda::End;
 use ppq_files::WholeFault;
 
 /// The longest script, in bytes.

@@ -1,8 +1,7 @@
 //! Executes a script over a device.
-ghost use Rattle.std.specs.Prelude.{◌≡◌, ◌≤◌, ℕ, List, Option, [], Some, IsTrue, map};
-ghost use Rattle.ppq_engine.specs.Output.{KeepsLengths};
-ghost use Rattle.ppq_engine.specs.Files.{IsReadInScript};
-ghost use Rattle.ppq_cli.specs.Device.{make_end};
+ghost use Rattle.std.specs.Prelude.{◌≡◌, ◌≤◌, ℕ, List, Option, Some, IsTrue, map};
+ghost use Rattle.ppq_agenda.specs.ppq_engine.Output.{KeepsLengths};
+ghost use Rattle.ppq_agenda.specs.ppq_engine.Files.{IsReadInScript};
 ghost use Rattle.ppq_cli.specs.Outside.{OutsideKept};
 ghost use Rattle.ppq_cli.specs.RunOver.{RunWrites, RunTransfers, RunEnds};
 ghost use Rattle.ppq_cli.specs.RunWords.{device_named, blocks_given};
@@ -10,34 +9,9 @@ ghost use Rattle.ppq_words.specs.ppq_outside.Told.{Rose, RepliesOnly};
 ghost use Rattle.ppq_words.specs.Reading.{as_reading, sizes_at};
 
 use crate::context::Context;
-use crate::device::make_blocks;
-use ppq_engine::{End, Ended, run_script};
-use ppq_record::record_laws;
-use ppq_words::{
-    Fields, Gate, Host, Library, OutsideFault, Rack, RunArguments, Script, Sink, Slot,
-};
-use std::alloc::Global;
-
-/// An outcome that comes before a block was made.
-pub fn without_blocks<S: Slot>(alloc: Global, end: End) -> Ended<S>
-    ensures end { result.end ≡ end }
-    ensures none { result.blocks.items ≡ [] }
-{
-    Ended {
-        end,
-        blocks: Vec::new(alloc),
-    }
-}
-
-// Why a device was not made, as an end.
-fn end_of_making(fault: OutsideFault) -> End
-    ensures { result ≡ make_end fault }
-{
-    match fault {
-        OutsideFault::Failed => End::NoDevice,
-        OutsideFault::Memory => End::Memory,
-    }
-}
+use crate::device::device_for;
+use ppq_agenda::{Ended, run_script};
+use ppq_words::{Fields, Gate, Host, Library, Rack, RunArguments, Script, Sink};
 
 /// Makes the device, with blocks for the script's records, and executes a checked script over it, unless the
 /// budget is below its fixed part; the outcome then has that part in the unit of the budget. A record has at
@@ -66,36 +40,18 @@ where
     ensures asks { RepliesOnly (L.replied library.old) (L.replied library.new) (IsReadInScript script.now) }
     ensures ends { RunEnds R.Fields (L.told library.old) (L.replied library.new) (as_reading arguments.now) script.now result.end }
 {
-    record_laws::<R>();
-    let sizes = arguments.given.for_width(R::WIDTH as u64);
-    let need = sizes.fixed();
-    if sizes.memory() < need {
-        let need = arguments.given.unit().amount(need, R::WIDTH as u64);
-        return without_blocks(context.alloc, End::BudgetTooSmall { need });
-    }
-    let bytes = sizes.block() as usize * R::WIDTH;
-    match make_blocks(
-        context.rt,
-        context.alloc,
-        rack,
-        arguments.device,
-        sizes.blocks(),
-        bytes,
-    ) {
-        Ok(slots) => run_script(
+    match device_for::<R, H, K, G>(context, &arguments.given, arguments.device, rack) {
+        Ok(made) => run_script(
             context.rt,
             context.alloc,
             script,
-            sizes,
-            slots,
+            made.sizes,
+            made.blocks,
             library,
             out,
             context.gate,
             arguments.form,
         ),
-        Err((blocks, fault)) => Ended {
-            end: end_of_making(fault),
-            blocks,
-        },
+        Err(ended) => ended,
     }
 }

@@ -8,7 +8,7 @@ ghost use Rattle.ppq_cli.specs.AllWords.{subcommand_named, subcommand_of};
 pub enum Subcommand {
     /// Executes a script, or refuses a first argument that names no command.
     Run,
-    /// Simulates events. Planned, not implemented.
+    /// Simulates the events of an agenda.
     Sim,
     /// Sweeps over a graph. Planned, not implemented.
     Sweep,

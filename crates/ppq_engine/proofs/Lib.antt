@@ -1,3 +1,4 @@
+pub use Rattle.ppq_load.proofs as ppq_load
 pub mod Advancing
 pub mod Asked
 pub mod Below

@@ -4,7 +4,7 @@ use Rattle.ppq_script.specs.ppq_outside.Shown.{Shown}
 use Rattle.ppq_load.specs.ppq_budget.Sizes.{Numbers, fixed_of}
 use Rattle.ppq_load.specs.ppq_array.Kept.{HasFailed}
 use Rattle.ppq_engine.specs.declared.end.End.{End}
-use Rattle.ppq_engine.specs.declared.end.End.TheVariants.{Done, BadLine, Usage, ReadFault, WriteFault, DeviceFault, NoFreeBlock, BudgetTooSmall, Memory, FileChanged, NoDevice, NoScript, ScriptTooLong}
+use Rattle.ppq_engine.specs.declared.end.End.TheVariants.{Done, BadLine, Usage, ReadFault, WriteFault, DeviceFault, NoFreeBlock, BudgetTooSmall, Memory, FileChanged, NoDevice, NoScript, ScriptTooLong, BadAgenda}
 
 -- What ends have in common: all was done; the arguments, the script or the budget were refused, before a block was made; the device could not be
 -- made; the library failed; the sink or a block failed; a file had become shorter; no block was free; or it gave up, since memory was wanting
@@ -33,6 +33,7 @@ class_of (FileChanged line said got) = Shrunk
 class_of NoDevice = Unmade
 class_of NoScript = Refused
 class_of ScriptTooLong = Refused
+class_of BadAgenda = Refused
 
 -- a class of ends with which the commands were begun: all was done, sink, block or library failed, no block was free, or a file had changed
 abbrev pub HasBegun : Class → Type 0

@@ -1,9 +1,10 @@
-//! How the execution of a script ends.
+//! How a command of the program ends.
 
-/// How the execution of a script ends. Each end but `Memory` has a cause that the caller can see.
+/// How the execution of a script ends, or another command of the program. Each end but `Memory` has a cause that
+/// the caller can see.
 #[derive(Clone, Copy, Debug, PartialEq, Eq)]
 pub enum End {
-    /// The whole script was executed, and all its output was taken.
+    /// All was executed, and all its output was taken.
     Done,
     /// The script's first bad line.
     BadLine { line: u32 },
@@ -26,10 +27,12 @@ pub enum End {
     FileChanged { line: u32, said: u64, got: u64 },
     /// The device could not be made.
     NoDevice,
-    /// The library has no script of that name.
+    /// The library has no script, or no agenda, of that name.
     NoScript,
     /// The script is longer than 1,048,576 bytes.
     ScriptTooLong,
+    /// The agenda is not whole records of 24 bytes, or has more than 4,294,967,296 of them.
+    BadAgenda,
 }
 
 /// How an execution ended, and the blocks that were made for it.

@@ -24,5 +24,6 @@ pub use answer::Answer;
 pub use drained::Drained;
 pub use end::{End, Ended};
 pub use laws::session_laws;
-pub use ppq_script::{Form, Head, Script, check_files, read, read_head};
+pub use ppq_load::{LoadFault, OpenFault, load_file};
+pub use ppq_script::{Form, Head, Library, Memory, Script, Sink, check_files, read, read_head};
 pub use run::run_script;

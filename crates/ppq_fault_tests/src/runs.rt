@@ -1,9 +1,11 @@
-//! A run of a script over memory, of which one call fails.
+//! A run of a script or an agenda over memory, of which one call fails.
 ghost use Rattle.std.specs.Prelude.{◌≡◌};
 
 use crate::call::{Call, Faults};
 use crate::cases::{Case, Text};
-use ppq_cli::{End, Ended, run_words};
+use ppq_cli::{
+    CountHandler, End, Ended, ForkHandler, Handler, MortalHandler, RelayHandler, all_words,
+};
 use ppq_outside::{
     Host, Library, MemLibrary, MemRack, MemSink, MemSlot, OpenGate, Rack, Sink, Slot,
 };
@@ -19,6 +21,48 @@ const TAKEN: usize = 3;
 // A file of two records, `5 1` and `3 9`.
 const TWO: &[u8] = b"\0\0\0\0\0\0\0\x05\0\0\0\0\0\0\0\x01\0\0\0\0\0\0\0\x03\0\0\0\0\0\0\0\x09";
 
+// The events of an agenda: time, target and word.
+const EVENTS: [[u64; 3]; 8] = [
+    [1, 2, 8],
+    [1, 1, 3],
+    [2, 0, 5],
+    [2, 5, 9],
+    [3, 4, 2],
+    [3, 8, 6],
+    [4, 12, 0],
+    [4, 12, 7],
+];
+
+/// A roster as the program has it.
+pub type Roster = Vec<Option<Box<dyn Handler + Send>>>;
+
+// The program's roster: Count, Relay and Fork by turns at 12 places, and Mortal at 4 more.
+fn roster_of(rt: &impl Abort, alloc: Global) -> Roster {
+    let mut roster: Roster = Vec::new(alloc);
+    for i in 0..16u64 {
+        let handler: Box<dyn Handler + Send> = match i % 3 {
+            _ if i >= 12 => Box::new(alloc, MortalHandler::new()).expect(rt, "memory"),
+            0 => Box::new(alloc, CountHandler::new()).expect(rt, "memory"),
+            1 => Box::new(alloc, RelayHandler::new()).expect(rt, "memory"),
+            _ => Box::new(alloc, ForkHandler::new()).expect(rt, "memory"),
+        };
+        roster.push(Some(handler)).expect(rt, "memory");
+    }
+    roster
+}
+
+// The bytes of the agenda.
+fn agenda_of(rt: &impl Abort, alloc: Global) -> Vec<u8> {
+    let mut bytes = Vec::new(alloc);
+    for event in EVENTS {
+        for number in event {
+            let put = bytes.extend_from_slice(&number.to_be_bytes());
+            put.expect(rt, "memory");
+        }
+    }
+    bytes
+}
+
 /// The words of a line.
 pub fn words_in(rt: &impl Abort, alloc: Global, line: &str) -> Vec<String> {
     let mut words = Vec::new(alloc);
@@ -29,13 +73,15 @@ pub fn words_in(rt: &impl Abort, alloc: Global, line: &str) -> Vec<String> {
     words
 }
 
-/// A library with the script `s` and the file `f` of two records.
+/// A library with the script `s`, the file `f` of two records and the agenda `e`.
 pub fn library_of(rt: &impl Abort, alloc: Global, script: &[u8], call: Call) -> MemLibrary
     ensures { ⟦<MemLibrary as Library>⟧.faults result ≡ 0 }
 {
     let mut library = MemLibrary::new(alloc);
     library.add(alloc, "s", script).expect(rt, "memory");
     library.add(alloc, "f", TWO).expect(rt, "memory");
+    let events = agenda_of(rt, alloc);
+    library.add(alloc, "e", &events).expect(rt, "memory");
     if let Call::Library { call } = call {
         library.fail_call(call).expect(rt, "memory");
     }
@@ -101,7 +147,7 @@ pub fn ran_of<S: Slot>(
     }
 }
 
-/// Runs the script of a case, of which a call fails.
+/// Runs the script or the agenda of a case, of which a call fails.
 pub fn run<H: Host + Abort>(
     rt: &H,
     alloc: Global,
@@ -116,10 +162,13 @@ where
     let mut library = library_of(rt, alloc, &text.script, call);
     let mut rack = rack_of(rt, alloc, call);
     let mut sink = sink_of(rt, alloc, call);
-    let ended = run_words(
+    let roster = roster_of(rt, alloc);
+    assert!(rt; !roster.is_empty() && roster.len() <= 65_536);
+    let ended = all_words(
         rt,
         alloc,
         &words,
+        roster,
         &mut library,
         &mut rack,
         &OpenGate,

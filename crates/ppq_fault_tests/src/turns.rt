@@ -1,8 +1,8 @@
-//! Each call of the outside fails in turn, a run each: 12 calls of the library, 8 puts and some 170 calls of blocks in
+//! Each call of the outside fails in turn, a run each: 15 calls of the library, 9 puts and some 200 calls of blocks in
 //! all. Passes go on side by side, so that what they do to which block may differ a little from run to run.
 
 use crate::call::{Call, Faults};
-use crate::cases::{CASES, Case, EARLY, Text, text_of};
+use crate::cases::{AGENDA, CASES, Case, EARLY, Text, text_of};
 use crate::runs::{Ran, are_all, are_read_rarely, calls_of, faults_of, run};
 use ppq_cli::End;
 use ppq_outside::{Host, Slot};
@@ -176,6 +176,24 @@ where
     for (call, case) in EARLY {
         writes_nothing(rt, alloc, *call, case);
     }
+}
+
+// Lets each call of the outside fail in turn, for the agenda. Its length is asked for, and then its eight events are read by
+// four; all it writes is put at once.
+fn each_fails_of_agenda<H: Host + Abort>(rt: &H, alloc: Global)
+where
+    H::Dir: Send,
+{
+    let blocks = each_block(rt, alloc, &AGENDA);
+    assert!(rt; blocks.reached > 0);
+    let library = each_of_library(rt, alloc, &AGENDA);
+    let puts = each_put(rt, alloc, &AGENDA);
+    assert_eq!(rt; (library, puts), (3, 1));
+}
+
+#[test]
+fn each_call_that_fails_of_an_agenda_has_its_end(rt: HostRuntime) {
+    each_fails_of_agenda(&rt, rt.alloc());
 }
 
 #[test]

@@ -2,7 +2,7 @@
 ghost use Rattle.std.specs.Prelude.{None, ◌<◌, ◌^◌, ⊤};
 
 use crate::memory::{TWO, sink_in, words_in};
-use ppq_cli::{CheckedRack, DirLibrary, FileRack, NamedFiles, OpenGate, run_and_report};
+use ppq_cli::{CheckedRack, DirLibrary, FileRack, Handler, NamedFiles, OpenGate, run_and_report};
 use ppq_outside::{Host, Library, OutsideFault, Rack};
 use std::alloc::Global;
 use std::fs;
@@ -48,10 +48,13 @@ where
     let words = words_in(rt, alloc, line);
     let mut out = sink_in(rt, alloc);
     let mut errors = sink_in(rt, alloc);
+    let mut roster: Vec<Option<Box<dyn Handler + Send>>> = Vec::new(alloc);
+    roster.push(None).expect(rt, "memory");
     let status = run_and_report(
         rt,
         alloc,
         &words,
+        roster,
         library,
         rack,
         &OpenGate,

@@ -14,4 +14,6 @@ mod report;
 #[cfg(test)]
 mod scripts;
 #[cfg(test)]
+mod sim;
+#[cfg(test)]
 mod transfers;

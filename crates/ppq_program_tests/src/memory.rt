@@ -1,7 +1,7 @@
 //! What the tests over memory share: words, a library, a sink, and a run of them.
 ghost use Rattle.std.specs.Prelude.{◌≡◌, ◌<◌, ◌^◌};
 
-use ppq_cli::{End, Ended, all_words};
+use ppq_cli::{End, Ended, Handler, all_words};
 use ppq_outside::{
     Host, Library, MemLibrary, MemRack, MemSink, MemSlot, OpenGate, Rack, Sink, Slot,
 };
@@ -73,7 +73,7 @@ pub fn sink_in(rt: &impl Abort, alloc: Global) -> MemSink
     MemSink::new(alloc, ROOM).expect(rt, "memory")
 }
 
-/// How a line of words ends, over a library, a rack and a sink.
+/// How a line of words ends, over a library, a rack and a sink, with a roster of no handler.
 pub fn run<H: Host + Abort, L: Library>(
     rt: &H,
     alloc: Global,
@@ -89,7 +89,9 @@ where
     requires sink { ⟦<MemSink as Sink>⟧.faults sink.old < 2 ^ 63 }
 {
     let words = words_in(rt, alloc, line);
-    all_words(rt, alloc, &words, library, rack, &OpenGate, sink)
+    let mut roster: Vec<Option<Box<dyn Handler + Send>>> = Vec::new(alloc);
+    roster.push(None).expect(rt, "memory");
+    all_words(rt, alloc, &words, roster, library, rack, &OpenGate, sink)
 }
 
 /// Asserts how a line of words ends, over a library, a rack and a sink, and what the sink holds then.

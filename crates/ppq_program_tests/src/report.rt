@@ -89,6 +89,7 @@ const REPORTS: &[(End, u8, &[u8])] = &[
     (End::NoDevice, 10, b"ppq: cannot make the device\n"),
     (End::NoScript, 11, b"ppq: no such script\n"),
     (End::ScriptTooLong, 12, b"ppq: script too long\n"),
+    (End::BadAgenda, 13, b"ppq: bad agenda\n"),
 ];
 
 #[test]

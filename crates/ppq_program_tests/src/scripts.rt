@@ -517,9 +517,7 @@ fn two_runs_with_sizes_of_their_own_write_the_same(rt: HostRuntime) {
 
 // Command lines of commands that are planned, and of none.
 const PLANNED: &[&str] = &[
-    "sim",
     "sweep",
-    "sim s --device d --workers 2 --block 2 --heap 1 --memory 372 --blocks 200",
     "sweep s --device d --workers 2 --block 2 --heap 1 --memory 372 --blocks 200",
     "Sim s",
     "simulate s",

@@ -4,7 +4,7 @@ use std::alloc::Global;
 use std::process::Abort;
 
 // The words of the parts of a line; single spaces part them.
-fn words_of(rt: &impl Abort, alloc: Global, parts: &[&str]) -> Vec<String> {
+pub(crate) fn words_of(rt: &impl Abort, alloc: Global, parts: &[&str]) -> Vec<String> {
     let mut words = Vec::new(alloc);
     for part in parts {
         for word in part.split(' ') {

@@ -13,3 +13,5 @@ mod heads;
 mod parts;
 #[cfg(test)]
 mod script;
+#[cfg(test)]
+mod sim_arguments;

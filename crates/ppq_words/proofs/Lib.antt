@@ -2,9 +2,11 @@ pub use Rattle.ppq_script.proofs.ppq_outside as ppq_outside
 pub use Rattle.ppq_script.proofs as ppq_script
 mod Found
 mod Law
+mod Lines
 mod Names
 mod Parse
 mod Parts
 mod Rows
+mod SimLaw
 mod Spelled
 mod Told

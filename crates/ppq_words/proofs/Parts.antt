@@ -13,8 +13,8 @@ use Rattle.ppq_words.specs.declared.budget_unit.BudgetUnit.{BudgetUnit}
 use Rattle.ppq_words.specs.declared.budget_unit.BudgetUnit.TheVariants as unit
 use Rattle.ppq_words.specs.Uses.{Text, alone}
 use Rattle.ppq_words.specs.Given.{Given, given_as, AreGivenInRange}
-use Rattle.ppq_words.specs.Reading.{not_empty, number_in, are_in_range, in_range, given_of, budget_of, form_of}
-use Rattle.ppq_words.specs.Meaning.{Argument, IsPlain, values_of, HasNumber, HasBudget, HasForm}
+use Rattle.ppq_words.specs.Reading.{not_empty, number_in, are_in_range, in_range, given_of, budget_of, given_by, form_of}
+use Rattle.ppq_words.specs.Meaning.{Argument, IsPlain, values_of, HasNumber, HasBudget, HasSizes, HasForm}
 use Rattle.ppq_words.proofs.Told.{Stands, Tells, value_told, none_told}
 
 abbrev pub NumberLaw : Type 0
@@ -33,7 +33,7 @@ one_stands values v e = let one = ap length e in omega (arith, one)
 none_stands : (values : List Text) → values ≡ [] → length values ≤ 1
 none_stands values e = let none = ap length e in omega (arith, none)
 
-number_once : (args : List Argument) (name : Text) (n : ℕ) → HasNumber args name n → length (values_of name args) ≤ 1
+pub number_once : (args : List Argument) (name : Text) (n : ℕ) → HasNumber args name n → length (values_of name args) ≤ 1
 number_once args name n h = one_stands (values_of name args) h.digits h.once
 
 -- each of both options of a budget stands once at the most
@@ -68,15 +68,6 @@ name_told o values name told = (there o told, back o told)
     back o h has = ap (option_and_then not_empty) (value_told o values name h has.0) ∙ whole name has.1
 
 -- ---- the sizes of a queue
-
--- four numbers and the budget, each in its range
-pub record HasSizes (args : List Argument) (g : Given) : Type 0 where
-  pub blocks : HasNumber args (codes "--blocks") g.numbers.blocks
-  pub workers : HasNumber args (codes "--workers") g.numbers.workers
-  pub block : HasNumber args (codes "--block") g.numbers.block
-  pub heap : HasNumber args (codes "--heap") g.numbers.heap
-  pub budget : HasBudget args g.numbers.memory g.unit
-  pub in_range : AreGivenInRange g
 
 range_is : (g : Given) → are_in_range g ≡ true → AreGivenInRange g
 range_is g e = record {
@@ -192,10 +183,7 @@ module _ (law : NumberLaw) (value : Text → Option Text) (args : List Argument)
       back form.Bytes once = ap form_of (value_told (value (codes "--form")) _ (codes "bytes") stands once)
 
   -- the sizes, as each command has them
-  abbrev pub sizes_by : Option Given
-  sizes_by = given_of (number_in (value (codes "--blocks"))) (number_in (value (codes "--workers"))) (number_in (value (codes "--block"))) (number_in (value (codes "--heap"))) (budget_of (value (codes "--memory")) (value (codes "--memory-bytes")))
-
-  pub sizes_told : (g : Given) → (sizes_by ≡ Some g) ↔ HasSizes args g
+  pub sizes_told : (g : Given) → (given_by value ≡ Some g) ↔ HasSizes args g
   sizes_told g = (
     λ e. let n = given_parts (number_in (value (codes "--blocks"))) (number_in (value (codes "--workers"))) (number_in (value (codes "--block"))) (number_in (value (codes "--heap"))) _ g e in record {
       blocks = (number_told (codes "--blocks") g.numbers.blocks refl).0 n.0;

@@ -7,7 +7,7 @@ use Rattle.ppq_script.specs.declared.form.Form.TheVariants as form
 use Rattle.ppq_words.specs.declared.budget_unit.BudgetUnit.{BudgetUnit}
 use Rattle.ppq_words.specs.declared.budget_unit.BudgetUnit.TheVariants as unit
 use Rattle.ppq_words.specs.Uses.{Text, begins_with_hyphen}
-use Rattle.ppq_words.specs.Given.{AreGivenInRange}
+use Rattle.ppq_words.specs.Given.{Given, AreGivenInRange}
 use Rattle.ppq_words.specs.Reading.{Reading, run_usage}
 
 -- the script's name, or an option with its value: in the next word, as `--heap 1`, or after `=`, as `--heap=1`
@@ -72,6 +72,15 @@ pub record HasBudget (arguments : List Argument) (n : ℕ) (u : BudgetUnit) : Ty
   pub given : HasNumber arguments (budget_option u) n
   pub alone : values_of (other_option u) arguments ≡ []
 
+-- four numbers and the budget, each in its range
+pub record HasSizes (arguments : List Argument) (g : Given) : Type 0 where
+  pub blocks : HasNumber arguments (codes "--blocks") g.numbers.blocks
+  pub workers : HasNumber arguments (codes "--workers") g.numbers.workers
+  pub block : HasNumber arguments (codes "--block") g.numbers.block
+  pub heap : HasNumber arguments (codes "--heap") g.numbers.heap
+  pub budget : HasBudget arguments g.numbers.memory g.unit
+  pub in_range : AreGivenInRange g
+
 -- `--form` stands once with the name of this form; or it does not stand, and the form is text
 abbrev pub HasForm : List Argument → Form → Type 0
 HasForm arguments form.Text = (values_of (codes "--form") arguments ≡ []) ⊎ (values_of (codes "--form") arguments ≡ codes "text" ∷ [])
@@ -104,6 +113,23 @@ IsName name = (1 ≤ length name) × IsPlain name
 abbrev pub IsBudgetUsage : List Text → ℕ → BudgetUnit → Type 0
 IsBudgetUsage words n u = (digits : Text) × ((words ≡ budget_option u ∷ digits ∷ []) × Spells digits n)
 
+-- `--device FILE --blocks D --workers P --block B --heap H (--memory M | --memory-bytes N)`, with this name and these numbers
+pub record IsQueueUsage (words : List Text) (device : Text) (g : Given) : Type 0 where
+  pub blocks : Text
+  pub workers : Text
+  pub block : Text
+  pub heap : Text
+  pub budget : List Text
+  pub spelled : words ≡ codes "--device" ∷ device ∷ codes "--blocks" ∷ blocks ∷ codes "--workers" ∷ workers ∷ codes "--block" ∷ block
+      ∷ codes "--heap" ∷ heap ∷ budget
+  pub device_is : IsName device
+  pub spelled_blocks : Spells blocks g.numbers.blocks
+  pub spelled_workers : Spells workers g.numbers.workers
+  pub spelled_block : Spells block g.numbers.block
+  pub spelled_heap : Spells heap g.numbers.heap
+  pub budget_is : IsBudgetUsage budget g.numbers.memory g.unit
+  pub in_range : AreGivenInRange g
+
 -- `--form text` or nothing, or `--form bytes`
 abbrev pub IsFormUsage : List Text → Form → Type 0
 IsFormUsage words form.Text = (words ≡ []) ⊎ (words ≡ codes "--form" ∷ codes "text" ∷ [])
@@ -112,20 +138,9 @@ IsFormUsage words form.Bytes = words ≡ codes "--form" ∷ codes "bytes" ∷ []
 -- `run SCRIPT --device FILE --blocks D --workers P --block B --heap H (--memory M | --memory-bytes N) [--form text|bytes]`, with the names
 -- and numbers of this reading
 pub record IsUsageOf (words : List Text) (r : Reading) : Type 0 where
-  pub blocks : Text
-  pub workers : Text
-  pub block : Text
-  pub heap : Text
-  pub budget : List Text
+  pub queue : List Text
   pub form : List Text
-  pub spelled : words ≡ codes "run" ∷ r.script ∷ codes "--device" ∷ r.device ∷ codes "--blocks" ∷ blocks ∷ codes "--workers" ∷ workers
-      ∷ codes "--block" ∷ block ∷ codes "--heap" ∷ heap ∷ budget ++ form
+  pub spelled : words ≡ codes "run" ∷ r.script ∷ queue ++ form
   pub script : IsName r.script
-  pub device : IsName r.device
-  pub spelled_blocks : Spells blocks r.given.numbers.blocks
-  pub spelled_workers : Spells workers r.given.numbers.workers
-  pub spelled_block : Spells block r.given.numbers.block
-  pub spelled_heap : Spells heap r.given.numbers.heap
-  pub budget_is : IsBudgetUsage budget r.given.numbers.memory r.given.unit
+  pub queue_is : IsQueueUsage queue r.device r.given
   pub form_is : IsFormUsage form r.form
-  pub in_range : AreGivenInRange r.given

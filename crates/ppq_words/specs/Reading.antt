@@ -82,6 +82,12 @@ budget_of (Some records) None = option_map (λ n. (n, unit.Records)) (number_of 
 budget_of None (Some bytes) = option_map (λ n. (n, unit.Bytes)) (number_of bytes)
 budget_of (Some records) (Some bytes) = None
 
+-- the sizes that the values under names say
+abbrev pub given_by : (Text → Option Text) → Option Given
+given_by value =
+    given_of (number_in (value (codes "--blocks"))) (number_in (value (codes "--workers"))) (number_in (value (codes "--block"))) (number_in (value (codes "--heap")))
+    (budget_of (value (codes "--memory")) (value (codes "--memory-bytes")))
+
 -- the form that a value names: text where there is none
 abbrev pub form_of : Option Text → Option Form
 form_of None = Some form.Text
@@ -95,9 +101,7 @@ reading_from script device given form = None
 -- what the values under names say
 abbrev pub reading_by : (Text → Option Text) → Option Reading
 reading_by value =
-    reading_from (option_and_then not_empty (value alone)) (option_and_then not_empty (value (codes "--device")))
-    (given_of (number_in (value (codes "--blocks"))) (number_in (value (codes "--workers"))) (number_in (value (codes "--block"))) (number_in (value (codes "--heap"))) (budget_of (value (codes "--memory")) (value (codes "--memory-bytes"))))
-    (form_of (value (codes "--form")))
+    reading_from (option_and_then not_empty (value alone)) (option_and_then not_empty (value (codes "--device"))) (given_by value) (form_of (value (codes "--form")))
 
 -- the reading of the words, where they have one
 abbrev pub reading_of : List Text → Option Reading

@@ -5,6 +5,10 @@
 //! twice. An option's value is the next word (`--heap 1`), or follows `=` in the same word
 //! (`--heap=1`). There is no help and no version option.
 //!
+//! `sim AGENDA --device FILE --blocks D --workers P --block B --heap H (--memory M | --memory-bytes N)
+//! --until T --events E`: the same for a simulation, with the word `sim`, the agenda's name in place of
+//! the script's, and other options in place of `--form`.
+//!
 //! A command is a description (`Usage`): its word, and its options. The crate looks for the word and
 //! for stray hyphens first, then `clap` splits the words into names and values, and then the crate
 //! reads the values: what must stand, what excludes what, and numbers by the grammar of scripts.
@@ -14,6 +18,10 @@ mod budget_unit;
 mod given_sizes;
 mod laws;
 mod run_arguments;
+mod sim_arguments;
+mod sim_laws;
+mod sim_values;
+mod sim_words;
 mod strays;
 mod usage;
 mod values;
@@ -29,4 +37,7 @@ pub use ppq_script::{
     read_head,
 };
 pub use run_arguments::RunArguments;
+pub use sim_arguments::SimArguments;
+pub use sim_laws::sim_words_mean;
+pub use sim_words::read_sim_words;
 pub use words::read_words;

@@ -51,6 +51,22 @@ pub(crate) const RUN: Usage = Usage {
     ],
 };
 
+// The command `sim`.
+pub(crate) const SIM: Usage = Usage {
+    word: "sim",
+    options: &[
+        "--device",
+        "--blocks",
+        "--workers",
+        "--block",
+        "--heap",
+        "--memory",
+        "--memory-bytes",
+        "--until",
+        "--events",
+    ],
+};
+
 impl Usage {
     // The command as `clap` is told of it. Its word stands for the program's name, and nothing is
     // required or excluded.

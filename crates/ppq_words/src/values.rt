@@ -1,14 +1,14 @@
 //! What the values of a parse say.
-ghost use Rattle.std.specs.Prelude.{◌≡◌, Some, option_map, option_and_then, codes};
+ghost use Rattle.std.specs.Prelude.{◌≡◌, option_map, option_and_then, codes};
 ghost use Rattle.clap.specs.Words.{first_value, found_of};
-ghost use Rattle.ppq_words.specs.Reading.{as_reading, not_empty, number_in, budget_of, given_of, form_of, reading_by};
+ghost use Rattle.ppq_words.specs.Reading.{as_reading, not_empty, number_in, budget_of, given_by, form_of, reading_by};
 
 use crate::{BudgetUnit, GivenSizes, RunArguments};
 use clap::ArgMatches;
 use ppq_script::{Form, number};
 
 // The value under a name, where it is not empty.
-fn name_under<'a>(matches: &ArgMatches<'a>, id: &str) -> Option<&'a str>
+pub(crate) fn name_under<'a>(matches: &ArgMatches<'a>, id: &str) -> Option<&'a str>
     ensures { option_map (λ s. s.now) result ≡ option_and_then not_empty (first_value (found_of matches.now) id.now) }
 {
     let text = matches.get_str(id)?;
@@ -16,7 +16,7 @@ fn name_under<'a>(matches: &ArgMatches<'a>, id: &str) -> Option<&'a str>
 }
 
 // The value under a name, where it is a number of 1 to 20 decimal digits.
-fn number_under(matches: &ArgMatches<'_>, id: &str) -> Option<u64>
+pub(crate) fn number_under(matches: &ArgMatches<'_>, id: &str) -> Option<u64>
     ensures { result ≡ number_in (first_value (found_of matches.now) id.now) }
 {
     number(matches.get_str(id)?.as_bytes())
@@ -49,11 +49,12 @@ fn form_of(matches: &ArgMatches<'_>) -> Option<Form>
     }
 }
 
-// The sizes that the values say, with this budget in its unit, where each number is in its range.
-fn given_of(matches: &ArgMatches<'_>, budget: (u64, BudgetUnit)) -> Option<GivenSizes>
-    ensures { let value = first_value (found_of matches.now) in
-        result ≡ given_of (number_in (value (codes "--blocks"))) (number_in (value (codes "--workers"))) (number_in (value (codes "--block"))) (number_in (value (codes "--heap"))) (Some budget) }
+// The sizes that the values say, where none is missing, the budget is given in just one unit, and each
+// number is in its range.
+pub(crate) fn given_of(matches: &ArgMatches<'_>) -> Option<GivenSizes>
+    ensures { result ≡ given_by (first_value (found_of matches.now)) }
 {
+    let budget = budget_of(matches)?;
     let blocks = number_under(matches, "--blocks")?;
     let workers = number_under(matches, "--workers")?;
     let block = number_under(matches, "--block")?;
@@ -72,8 +73,7 @@ pub(crate) fn arguments_of<'a>(matches: &ArgMatches<'a>) -> Option<RunArguments<
 {
     let script = name_under(matches, "SCRIPT")?;
     let device = name_under(matches, "--device")?;
-    let budget = budget_of(matches)?;
-    let given = given_of(matches, budget)?;
+    let given = given_of(matches)?;
     let form = form_of(matches)?;
     Some(RunArguments {
         script,

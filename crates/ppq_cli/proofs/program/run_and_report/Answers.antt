@@ -7,9 +7,9 @@ returns g c =
     let call = c.all_words-ended in
     let ended = call.result in
     let said = c.report_end.ensures in
-    let all : AllWords g.L.Library g.K.Rack g.O.Sink g.K.Slot.Slot.shown c.args.words.now c.args.library.now call.new.library c.args.rack.now call.new.rack c.args.out.now call.new.out ended =
+    let all : AllWords g.L.Library g.K.Rack g.O.Sink g.K.Slot.Slot.shown c.args.words.now _ c.args.library.now call.new.library c.args.rack.now call.new.rack c.args.out.now call.new.out ended =
     record { run = call.ensures.run; sim = call.ensures.sim; sweep = call.ensures.sweep } in
-    let by = said_by_status g.L.Library g.K.Rack g.O.Sink g.K.Slot.Slot.shown c.args.words.now c.args.library.now call.new.library c.args.rack.now call.new.rack c.args.out.now call.new.out ended c.report_end.result said.status all in
+    let by = said_by_status g.L.Library g.K.Rack g.O.Sink g.K.Slot.Slot.shown c.args.words.now _ c.args.library.now call.new.library c.args.rack.now call.new.rack c.args.out.now call.new.out ended c.report_end.result said.status all in
     record {
       outcome = (ended, (all, (said.status, said.line)));
       done = by.done;

@@ -26,3 +26,9 @@ returns-in-ScriptTooLong-clause-all g c = rw c.in-ScriptTooLong.is c.put-in-Scri
 
 pub returns-in-ScriptTooLong-clause-part : goal.returns-in-ScriptTooLong-clause-part
 returns-in-ScriptTooLong-clause-part g c = rw c.in-ScriptTooLong.is c.put-in-ScriptTooLong.ensures.part
+
+pub returns-in-BadAgenda-clause-all : goal.returns-in-BadAgenda-clause-all
+returns-in-BadAgenda-clause-all g c = rw c.in-BadAgenda.is c.put-in-BadAgenda.ensures.all
+
+pub returns-in-BadAgenda-clause-part : goal.returns-in-BadAgenda-clause-part
+returns-in-BadAgenda-clause-part g c = rw c.in-BadAgenda.is c.put-in-BadAgenda.ensures.part

@@ -1,0 +1,187 @@
+-- A device that was made, and one that was not: what that says of the end of a run and of the outside.
+use Rattle.std.proofs.Common.{◌≡◌, inl, inr, ℕ, ◌<◌, ◌≤◌, List, map, length, Option, Some, None, refl, sym, ◌∙◌, subst, arith}
+use Rattle.std.specs.Prelude.{◌⊎◌, Bool, true, false, if◌then◌else◌, nat_lt, MatchOption, All}
+use Rattle.std.specs.List.{range_with_len}
+use Rattle.std.specs.List.Sorted.{IsPermutation}
+use Rattle.std.proofs.lemmas.Bool.{lt-ltb, le-ltb}
+use Rattle.std.proofs.lemmas.List.{length-map}
+use Rattle.ppq_words.specs.ppq_outside.declared.fault.OutsideFault.{OutsideFault}
+use Rattle.ppq_words.specs.ppq_outside.declared.fault.OutsideFault.TheVariants as outside
+use Rattle.ppq_words.specs.ppq_outside.declared.library.Library.{Ghosts as LibraryShows}
+use Rattle.ppq_words.specs.ppq_outside.declared.rack.Rack.{Ghosts as RackShows}
+use Rattle.ppq_words.specs.ppq_outside.declared.sink.Sink.{Ghosts as SinkShows}
+use Rattle.ppq_words.specs.ppq_outside.Shown.{Shown}
+use Rattle.ppq_words.specs.ppq_outside.Told.{Remembers, Rose}
+use Rattle.ppq_words.specs.ppq_budget.Sizes.{Numbers, fixed_of}
+use Rattle.ppq_words.specs.Given.{Given}
+use Rattle.ppq_words.specs.Reading.{sizes_for}
+use Rattle.ppq_agenda.specs.ppq_engine.ppq_array.Kept.{HasFailed, SameSlots}
+use Rattle.ppq_agenda.specs.ppq_engine.Ends.{class_of, BeganCommands, BeganOrRefused, budget_refusal}
+use Rattle.ppq_agenda.specs.ppq_engine.declared.end.End.{End}
+use Rattle.ppq_agenda.specs.ppq_engine.declared.end.End.TheVariants.{Done, ReadFault, WriteFault, DeviceFault, NoFreeBlock, BudgetTooSmall, Memory, NoDevice}
+use Rattle.ppq_agenda.specs.ppq_engine.declared.end.Ended.{Ended}
+use Rattle.ppq_cli.specs.Budget.{need_for, refusal_for}
+use Rattle.ppq_cli.specs.Device.{AreBlocks, ComesBeforeBlocks, HasReason, IsSurelyRun, make_end}
+use Rattle.ppq_cli.specs.DeviceFor.{IsDevice, LacksDevice}
+use Rattle.ppq_cli.specs.Outside.{Faults, OutsideKept}
+use Rattle.ppq_cli.specs.RunWords.{IsTried, IsTriedOrRefusal}
+use Rattle.ppq_cli.proofs.Blocks.{returned, made_just}
+use Rattle.ppq_cli.proofs.Ends.{begun_unrefused}
+use Rattle.ppq_cli.proofs.Outside.{unrun_unfailed, unrun_failed}
+
+module _ (width : ℕ) (given : Given) where
+  -- the budget is too small
+  pub small_answer : (sizes_for width given).memory < fixed_of (sizes_for width given) → IsTriedOrRefusal (refusal_for width given) (BudgetTooSmall (need_for width given))
+  small_answer small =
+      let P : Bool → Type 0 = λ b. MatchOption (if b then Some (BudgetTooSmall (need_for width given)) else None) (IsTried (BudgetTooSmall (need_for width given))) (λ e. BudgetTooSmall (need_for width given) ≡ e) in
+      inl (subst P (sym (lt-ltb (sizes_for width given).memory (fixed_of (sizes_for width given)) small)) refl)
+
+  -- the device could not be made
+  no_device : fixed_of (sizes_for width given) ≤ (sizes_for width given).memory → IsTriedOrRefusal (refusal_for width given) NoDevice
+  no_device enough =
+      let P : Bool → Type 0 = λ b. MatchOption (if b then Some (BudgetTooSmall (need_for width given)) else None) (IsTried NoDevice) (λ e. NoDevice ≡ e) in
+      inl (subst P (sym (le-ltb (sizes_for width given).memory (fixed_of (sizes_for width given)) enough)) (inr refl))
+
+  pub unmade_answer : fixed_of (sizes_for width given) ≤ (sizes_for width given).memory → (fault : OutsideFault) → IsTriedOrRefusal (refusal_for width given) (make_end fault)
+  unmade_answer enough outside.Failed = no_device enough
+  unmade_answer enough outside.Memory = inr refl
+
+-- a run that was begun, or whose budget is too small, was tried or refused
+tried : (refusal : Option End) (end : End) → BeganOrRefused refusal end → IsTriedOrRefusal refusal end
+tried None end (inl run) = inl (inl run)
+tried (Some e) end (inl is) = inl is
+tried refusal end (inr memory) = inr memory
+
+-- so it was tried where the budget is large enough
+pub begun_answer :
+    (width : ℕ) (given : Given) (sizes : Numbers) (end : End) → sizes ≡ sizes_for width given → fixed_of sizes ≤ sizes.memory → BeganOrRefused (budget_refusal sizes) end
+    → IsTriedOrRefusal (refusal_for width given) end
+begun_answer width given sizes end same enough answer =
+    let large = le-ltb sizes.memory (fixed_of sizes) enough in
+    let P : Bool → Type 0 = λ b. BeganOrRefused (if b then Some (BudgetTooSmall (fixed_of sizes)) else None) end in
+    let Q : Bool → Type 0 = λ b. IsTriedOrRefusal (if b then Some (BudgetTooSmall (need_for width given)) else None) end in
+    let R : Numbers → Type 0 = λ n. IsTriedOrRefusal (if nat_lt n.memory (fixed_of n) then Some (BudgetTooSmall (need_for width given)) else None) end in
+    subst R same (subst Q (sym large) (tried None end (subst P large answer)))
+
+device_made : (refusal : Bool) (need : ℕ) → MatchOption (if refusal then Some (BudgetTooSmall need) else None) (BeganCommands NoDevice) (λ e. NoDevice ≡ e) ⊎ (NoDevice ≡ Memory) → ⊥
+device_made true need (inl is) = cc
+device_made false need (inl run) = run
+device_made true need (inr is) = cc
+device_made false need (inr is) = cc
+
+-- a run that was begun has a device
+run_made : (sizes : Numbers) (end : End) → BeganOrRefused (budget_refusal sizes) end → end ≡ NoDevice → ⊥
+run_made sizes end answer is = device_made (nat_lt sizes.memory (fixed_of sizes)) (fixed_of sizes) (let P : End → Type 0 = λ e. BeganOrRefused (budget_refusal sizes) e in subst P is answer)
+
+-- the end of a run whose budget is large enough is none of a refusal
+unrefused_by : (small : Bool) (need : ℕ) (end : End) → small ≡ false → BeganOrRefused (if small then Some (BudgetTooSmall need) else None) end → ComesBeforeBlocks end → ⊥
+unrefused_by true need end large answer refused = cc
+unrefused_by false need end large (inl began) refused = begun_unrefused (class_of end) began refused
+unrefused_by false need end large (inr memory) refused = subst ComesBeforeBlocks memory refused
+
+run_unrefused : (sizes : Numbers) (end : End) → fixed_of sizes ≤ sizes.memory → BeganOrRefused (budget_refusal sizes) end → ComesBeforeBlocks end → ⊥
+run_unrefused sizes end enough answer refused = unrefused_by (nat_lt sizes.memory (fixed_of sizes)) (fixed_of sizes) end (le-ltb sizes.memory (fixed_of sizes) enough) answer refused
+
+-- the device could not be made: the rack's count rose where it failed
+pub unmade_faults : (library rack rack_now sink : ℕ) (fault : OutsideFault) → rack ≤ rack_now → HasReason rack rack_now fault → Faults Rose library library rack rack_now sink sink (make_end fault)
+unmade_faults library rack rack_now sink outside.Failed later reason = record {
+  read = λ is. cc;
+  write = λ is. cc;
+  device = λ is. reason;
+  library_later = omega arith;
+  library_stays = λ read written. refl;
+  rack_later = later;
+  rack_stays = λ unmade. absurd (unmade refl);
+  sink_later = omega arith;
+  sink_stays = λ written. refl;
+}
+unmade_faults library rack rack_now sink outside.Memory later reason = record {
+  read = λ is. cc;
+  write = λ is. cc;
+  device = λ is. cc;
+  library_later = omega arith;
+  library_stays = λ read written. refl;
+  rack_later = later;
+  rack_stays = λ unmade. reason;
+  sink_later = omega arith;
+  sink_stays = λ written. refl;
+}
+
+-- with such an end no run was begun
+pub unmade_unbegun : (fault : OutsideFault) → BeganCommands (make_end fault) → ⊥
+unmade_unbegun outside.Failed run = run
+unmade_unbegun outside.Memory run = run
+
+unmade_unrun : (fault : OutsideFault) → IsSurelyRun (make_end fault) → ⊥
+unmade_unrun outside.Failed run = run
+unmade_unrun outside.Memory run = run
+
+-- nor is it one of a refusal
+unmade_unrefused : (fault : OutsideFault) → ComesBeforeBlocks (make_end fault) → ⊥
+unmade_unrefused outside.Failed refused = refused
+unmade_unrefused outside.Memory refused = refused
+
+-- the blocks that were made before one that could not be
+pub unmade_blocks : (most : ℕ) (slots : List Shown) (fault : OutsideFault) → IsPermutation (map (λ s. s.number) slots) (range_with_len 0 (length slots)) → length slots ≤ most → AreBlocks most (make_end fault) slots
+unmade_blocks most slots fault numbers within = record { numbers = numbers; most = within; all = λ run. absurd (unmade_unrun fault run); all_or_none = λ run. absurd (unmade_unbegun fault run); none = λ refused. absurd (unmade_unrefused fault refused) }
+
+-- ends that come of a run alone come of one that was begun
+pub surely_begun : (end : End) → IsSurelyRun end → BeganCommands end
+surely_begun Done run = tt
+surely_begun WriteFault run = tt
+surely_begun (DeviceFault number) run = tt
+surely_begun NoFreeBlock run = tt
+surely_begun end run = absurd run
+
+module _
+    {A L K O S : Type 0} (library : LibraryShows L) (rack : RackShows K S) (sink : SinkShows O) (shown : S → Shown) (device : A → List ℕ) (most : A → ℕ) (width : ℕ) (given : Given) (a : A) (same : most a ≡ given.numbers.blocks)
+    (old_rack new_rack : K) (ended : Ended S) where
+  -- no device was made, and library and sink were left alone
+  pub unmade_outside : (held : L) (out : O) → LacksDevice rack shown width given (device a) old_rack new_rack ended → OutsideKept Rose library rack sink shown (Some a) device most held held old_rack new_rack out out ended
+  unmade_outside held out lacks =
+      let unrun : IsSurelyRun ended.end → ⊥ = λ run. lacks.unbegun (surely_begun ended.end run) in
+      record {
+        made = lacks.made;
+        blocks = subst (λ (n : ℕ). AreBlocks n ended.end (map shown ended.blocks.items)) (sym same) lacks.blocks;
+        unfailed = unrun_unfailed ended.end unrun;
+        failed = λ number is. absurd (unrun_failed ended.end unrun number is);
+        rack_tells = lacks.kept;
+        files = refl;
+        remembers = λ reply had. had;
+        faults = lacks.faults (library.faults held) (sink.faults out);
+      }
+
+  -- a device was made, a run was tried over it, and all its blocks come back
+  pub ran_outside :
+      (old_library new_library : L) (old_out new_out : O) (sizes : Numbers) (slots : List S)
+      → IsDevice rack shown width given (device a) old_rack new_rack sizes slots → BeganOrRefused (budget_refusal sizes) ended.end → SameSlots (map shown slots) (map shown ended.blocks.items)
+      → ((ended.end ≡ Done) ⊎ (ended.end ≡ NoFreeBlock) → All (λ (s : Shown). s.faults ≡ 0) (map shown ended.blocks.items)) → ((number : ℕ) → ended.end ≡ DeviceFault number → HasFailed number (map shown ended.blocks.items))
+      → library.told new_library ≡ library.told old_library → Remembers (library.replied old_library) (library.replied new_library)
+      → (ended.end ≡ ReadFault → Rose (library.faults old_library) (library.faults new_library)) → (ended.end ≡ WriteFault → Rose (sink.faults old_out) (sink.faults new_out))
+      → library.faults old_library ≤ library.faults new_library → (¬ (ended.end ≡ ReadFault) → ¬ (ended.end ≡ WriteFault) → library.faults new_library ≡ library.faults old_library)
+      → sink.faults old_out ≤ sink.faults new_out → (¬ (ended.end ≡ WriteFault) → sink.faults new_out ≡ sink.faults old_out)
+      → OutsideKept Rose library rack sink shown (Some a) device most old_library new_library old_rack new_rack old_out new_out ended
+  ran_outside old_library new_library old_out new_out sizes slots made answer back unfailed failed files remembers read write library_later library_stays sink_later sink_stays =
+      let slots_back = map shown ended.blocks.items in
+      let numbers = returned (map shown slots) slots_back back made.new.numbers in
+      let all : length slots_back ≡ most a = back.length ∙ length-map slots shown ∙ made.all ∙ sym same in
+      record {
+        made = made_just shown ended.blocks.items (rack.made old_rack (device a)) (rack.made new_rack (device a)) (length slots) numbers (back.length ∙ length-map slots shown) made.made;
+        blocks = record { numbers = numbers; most = omega (arith, all); all = λ run. all; all_or_none = λ run. inl all; none = λ refused. absurd (run_unrefused sizes ended.end made.enough answer refused) };
+        unfailed = unfailed;
+        failed = failed;
+        rack_tells = made.kept;
+        files = files;
+        remembers = remembers;
+        faults = record {
+          read = read;
+          write = write;
+          device = λ is. absurd (run_made sizes ended.end answer is);
+          library_later = library_later;
+          library_stays = library_stays;
+          rack_later = omega (arith, made.stays);
+          rack_stays = λ unmade. made.stays;
+          sink_later = sink_later;
+          sink_stays = sink_stays;
+        };
+      }
