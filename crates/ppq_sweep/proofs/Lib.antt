@@ -1,0 +1,10 @@
+pub mod Results
+pub mod Greatest
+pub mod Leveling
+pub mod Meaning
+pub mod Took
+pub mod Turning
+pub mod Served
+pub mod Gathered
+pub mod Visited
+pub mod Finished
