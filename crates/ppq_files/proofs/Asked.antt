@@ -3,6 +3,7 @@ use Rattle.std.proofs.Common.{ℕ, ◌≤◌, List, Option, Some, refl, sym, sub
 use Rattle.std.specs.Prelude.{Result, Ok, Err}
 use Rattle.ppq_outside.specs.Told.{Reply, OfLength, OfRead, Remembers, RepliesOnly, IsLengthGiven}
 use Rattle.ppq_outside.proofs.Replies.{no_replies, replies_wider, replies_then}
+use Rattle.ppq_files.specs.Lengths.{IsLength, IsLengthOf}
 use Rattle.ppq_files.specs.Reading.{IsReadWithin, IsOn, LibraryKeeps, ReadsFile}
 
 -- a read that ends at or before a place ends at or before a later one
@@ -49,6 +50,22 @@ length_on now asked (Err fault) reply given = absurd given
 pub length_asked :
     {E : Type 0} (before now : Reply → Type 0) (asked : List ℕ) (result : Result (Option ℕ) E) → RepliesOnly before now (IsLengthGiven asked result) → RepliesOnly before now (IsOn now asked)
 length_asked before now asked result only = replies_wider before now (IsLengthGiven asked result) (IsOn now asked) (length_on now asked result) only
+
+-- a reply on the length of one file is one on a length, and one on that file
+length_any : (asked : List ℕ) (reply : Reply) → IsLengthOf asked reply → IsLength reply
+length_any asked (OfLength name size) is = tt
+length_any asked (OfRead name at room given) is = is
+
+length_of_on : (now : Reply → Type 0) (asked : List ℕ) (reply : Reply) → IsLengthOf asked reply → IsOn now asked reply
+length_of_on now asked (OfLength name size) is = is
+length_of_on now asked (OfRead name at room given) is = absurd is
+
+module _ {L : Type 0} (files : L → Option (List ℕ → Option (List ℕ))) (replied : L → Reply → Type 0) (asked : List ℕ) where
+  pub asks_length : {old new : L} → LibraryKeeps files replied (IsLengthOf asked) old new → LibraryKeeps files replied IsLength old new
+  asks_length {old} {new} keeps = keeps-wider files replied (IsLengthOf asked) IsLength (length_any asked) keeps
+
+  pub asks_on : {old new : L} → LibraryKeeps files replied (IsLengthOf asked) old new → LibraryKeeps files replied (IsOn (replied new) asked) old new
+  asks_on {old} {new} keeps = keeps-wider files replied (IsLengthOf asked) (IsOn (replied new) asked) (length_of_on (replied new) asked) keeps
 
 -- and then a piece of it was read that ends at or before that length
 piece_on : (now : Reply → Type 0) (asked : List ℕ) (said : ℕ) → now (OfLength asked (Some said)) → (reply : Reply) → IsReadWithin asked said reply → IsOn now asked reply

@@ -23,6 +23,11 @@ abbrev pub IsLength : Reply → Type 0
 IsLength (OfLength name size) = ⊤
 IsLength (OfRead name at room given) = ⊥
 
+-- a reply on the length of this file
+abbrev pub IsLengthOf : List ℕ → Reply → Type 0
+IsLengthOf asked (OfLength name size) = name ≡ asked
+IsLengthOf asked (OfRead name at room given) = ⊥
+
 -- the library replied of this name something else than the length of a record file
 abbrev pub HasNoRecords : ℕ → (Reply → Type 0) → List ℕ → Type 0
 HasNoRecords width replied name = (size : Option ℕ) × (replied (OfLength name size) × (is_record_file width size ≡ false))

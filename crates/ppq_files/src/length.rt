@@ -2,7 +2,7 @@
 ghost use Rattle.std.specs.Prelude.{◌≡◌, Some, IfOk, IfErr};
 ghost use Rattle.ppq_outside.specs.Told.{OfLength, RepliesOnly};
 ghost use Rattle.ppq_files.specs.Reading.{LibraryKeeps, CountsBy};
-ghost use Rattle.ppq_files.specs.Lengths.{IsRecordLength, is_record_length, IsLength, LengthRefusalIsRight, LengthFaultAfter};
+ghost use Rattle.ppq_files.specs.Lengths.{IsRecordLength, is_record_length, IsLengthOf, LengthRefusalIsRight, LengthFaultAfter};
 
 use crate::context::Context;
 use ppq_outside::{Host, Library, OutsideFault};
@@ -44,7 +44,7 @@ pub fn record_length<R: Record, H: Host, L: Library>(
 ) -> Result<u64, LengthFault>
     ensures found { IfOk result (λ length. L.replied library.new (OfLength name.now (Some length)) × IsRecordLength R.WIDTH length) }
     ensures refused { IfErr result (LengthRefusalIsRight R.WIDTH (L.replied library.new) name.now) }
-    ensures library { LibraryKeeps L.told L.replied IsLength library.old library.new }
+    ensures library { LibraryKeeps L.told L.replied (IsLengthOf name.now) library.old library.new }
     ensures once { IfOk result (λ length. RepliesOnly (L.replied library.old) (L.replied library.new) (λ reply. reply ≡ OfLength name.now (Some length))) }
     ensures counts { CountsBy LengthFaultAfter (L.faults library.old) (L.faults library.new) result }
 {

@@ -7,7 +7,14 @@ use Rattle.ppq_script.specs.Checking.{ItemRefusalIsRight}
 use Rattle.ppq_script.specs.Files.{file_in, name_at}
 use Rattle.ppq_script.specs.Words.{words}
 use Rattle.ppq_script.proofs.Checks.{item_refusal}
+use Rattle.ppq_files.proofs.Asked.{asks_length}
 use Rattle.ppq_script.proofs.check.ask.Goals as goal
+
+pub returns-in-Ok-clause-library : goal.returns-in-Ok-clause-library
+returns-in-Ok-clause-library g c = asks_length g.L.Library.told g.L.Library.replied _ c.record_length.ensures.library
+
+pub returns-in-Err-clause-library : goal.returns-in-Err-clause-library
+returns-in-Err-clause-library g c = asks_length g.L.Library.told g.L.Library.replied _ c.record_length.ensures.library
 
 pub returns-in-Err-clause-refused : goal.returns-in-Err-clause-refused
 returns-in-Err-clause-refused g c =
