@@ -15,3 +15,5 @@ mod parts;
 mod script;
 #[cfg(test)]
 mod sim_arguments;
+#[cfg(test)]
+mod sweep_arguments;

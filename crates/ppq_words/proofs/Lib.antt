@@ -6,7 +6,9 @@ mod Lines
 mod Names
 mod Parse
 mod Parts
+mod Queue
 mod Rows
 mod SimLaw
 mod Spelled
+mod SweepLaw
 mod Told

@@ -1,8 +1,8 @@
 -- The parts of a reading, each from the values and as the arguments have it: for any command.
-use Rattle.std.proofs.Common.{◌≡◌, ◌∙◌, ◌↔◌, ◌≤◌, ℕ, Bool, true, false, cond, refl, sym, ap, ap₂, subst, arith, List, [], ◌∷◌, length, Option, Some, None, codes, bytes_eq, inl, inr, option_map}
+use Rattle.std.proofs.Common.{◌≡◌, ◌∙◌, ◌↔◌, ◌≤◌, ℕ, Bool, true, false, cond, refl, sym, ap, ap₂, subst, arith, List, [], ◌∷◌, length, nat_le, Option, Some, None, codes, bytes_eq, inl, inr, option_map}
 use Rattle.std.specs.List.{AllByRecursion as Each}
 use Rattle.std.specs.Option.{option_and_then}
-use Rattle.std.proofs.lemmas.Bool.{ne_eqb}
+use Rattle.std.proofs.lemmas.Bool.{ne_eqb, le-leb, leb-true}
 use Rattle.std.proofs.lemmas.Bool.Decides.{nat_tests}
 use Rattle.std.proofs.lemmas.Slice.Eq.{bytes_eq-Decides}
 use Rattle.ppq_script.specs.Number.{number_of}
@@ -13,8 +13,9 @@ use Rattle.ppq_words.specs.declared.budget_unit.BudgetUnit.{BudgetUnit}
 use Rattle.ppq_words.specs.declared.budget_unit.BudgetUnit.TheVariants as unit
 use Rattle.ppq_words.specs.Uses.{Text, alone}
 use Rattle.ppq_words.specs.Given.{Given, given_as, AreGivenInRange}
-use Rattle.ppq_words.specs.Reading.{not_empty, number_in, are_in_range, in_range, given_of, budget_of, given_by, form_of}
+use Rattle.ppq_words.specs.Reading.{not_empty, number_in, as_count, count_in, are_in_range, in_range, given_of, budget_of, given_by, form_of}
 use Rattle.ppq_words.specs.Meaning.{Argument, IsPlain, values_of, HasNumber, HasBudget, HasSizes, HasForm}
+use Rattle.ppq_words.proofs.Rows.{some_parts}
 use Rattle.ppq_words.proofs.Told.{Stands, Tells, value_told, none_told}
 
 abbrev pub NumberLaw : Type 0
@@ -66,6 +67,18 @@ name_told o values name told = (there o told, back o told)
 
     back : (o : Option Text) → Stands o values → HasName values name → option_and_then not_empty o ≡ Some name
     back o h has = ap (option_and_then not_empty) (value_told o values name h has.0) ∙ whole name has.1
+
+-- ---- a number of at most 2^32
+
+-- the option stands once, and its value spells this number of at most 2^32
+abbrev pub HasCount : List Argument → Text → ℕ → Type 0
+HasCount args name n = HasNumber args name n × (n ≤ 4294967296)
+
+count_parts : (o : Option ℕ) (n : ℕ) → option_and_then as_count o ≡ Some n → (o ≡ Some n) × (n ≤ 4294967296)
+count_parts None n e = cc
+count_parts (Some m) n e =
+    let parts = some_parts (nat_le m 4294967296) m n e in
+    (ap (λ (z : ℕ). Some z) parts.1, subst (λ (z : ℕ). z ≤ 4294967296) parts.1 (leb-true m 4294967296 parts.0))
 
 -- ---- the sizes of a queue
 
@@ -140,6 +153,12 @@ module _ (law : NumberLaw) (value : Text → Option Text) (args : List Argument)
       there : (o : Option Text) → Stands o (values_of name args) → number_in o ≡ Some n → HasNumber args name n
       there None h e = cc
       there (Some digits) h e = record { digits = digits; once = h; spelled = (law digits n).0 e }
+
+  pub count_told : (name : Text) (n : ℕ) → bytes_eq alone name ≡ false → (count_in (value name) ≡ Some n) ↔ HasCount args name n
+  count_told name n other = (
+    λ e. let parts = count_parts (number_in (value name)) n e in ((number_told name n other).0 parts.0, parts.1),
+    λ h. ap (option_and_then as_count) ((number_told name n other).1 h.0) ∙ ap (λ (b : Bool). cond b (Some n) None) (le-leb n 4294967296 h.1),
+  )
 
   -- the budget stands in just one unit
   budget_there : (n : ℕ) (u : BudgetUnit) (x y : Option Text) → Stands x (values_of (codes "--memory") args) → Stands y (values_of (codes "--memory-bytes") args) → budget_of x y ≡ Some (n, u) → HasBudget args n u

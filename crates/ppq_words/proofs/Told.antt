@@ -37,6 +37,12 @@ pub record AreSpelled (usage : Usage) (words : List Text) (args : List Argument)
   pub named : Each (IsNamed usage.options) args
   pub plain : Each (λ a. IsPlain (value_in a)) args
 
+-- the words spell arguments that have something
+pub record Spell (usage : Usage) (words : List Text) (Has : List Argument → Type 0) : Type 0 where
+  pub arguments : List Argument
+  pub spelled : AreSpelled usage words arguments
+  pub has : Has arguments
+
 -- no word stands alone beside another, and no option stands twice
 pub record StandOnce (usage : Usage) (args : List Argument) : Type 0 where
   pub script : length (scripts_in args) ≤ 1
@@ -198,6 +204,14 @@ module _ (usage : Usage) (all : AreNames usage.options) where
     pub told_read : (words : List Text) (r : R) (args : List Argument) → AreSpelled usage words args → StandOnce usage args → ((value : Text → Option Text) → Tells value args → by value ≡ Some r)
         → option_and_then by (values_in usage words) ≡ Some r
     told_read words r args h once read = let told = told_words words args h once in ap (option_and_then by) told.1 ∙ read told.0 told.2
+
+    -- words have a reading if and only if they spell arguments that have what it says
+    pub command_means : (Has : List Argument → R → Type 0) → ((value : Text → Option Text) (args : List Argument) → Tells value args → (r : R) → (by value ≡ Some r) ↔ Has args r)
+        → ((args : List Argument) (r : R) → Has args r → StandOnce usage args) → (words : List Text) (r : R) → (option_and_then by (values_in usage words) ≡ Some r) ↔ Spell usage words (λ args. Has args r)
+    command_means Has same once words r = (
+      λ e. let read = read_told words r e in record { arguments = read.1; spelled = read.2; has = (same read.0 read.1 read.3 r).0 read.4 },
+      λ h. told_read words r h.arguments h.spelled (once h.arguments r h.has) (λ value told. (same value h.arguments told r).1 h.has),
+    )
 
 -- ---- a definition that finds just what a relation has
 

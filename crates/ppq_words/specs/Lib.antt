@@ -9,5 +9,7 @@ pub mod Reading
 pub mod SimMeaning
 pub mod SimReading
 pub mod Strays
+pub mod SweepMeaning
+pub mod SweepReading
 pub mod Usage
 pub mod Uses

@@ -48,6 +48,10 @@ sizes_for width given = record given.numbers { memory = in_records width given.u
 abbrev pub sizes_at : ℕ → Reading → Numbers
 sizes_at width r = sizes_for width r.given
 
+-- the sizes of each of two queues that share the budget and the device: half of the records and half of the blocks, rounded down
+abbrev pub half_sizes_for : ℕ → Given → Numbers
+half_sizes_for width given = record (sizes_for width given) { memory = (sizes_for width given).memory / 2; blocks = (sizes_for width given).blocks / 2 }
+
 -- the bytes of each word
 abbrev pub texts_of : List (String Global) → List Text
 texts_of words = map (λ w. string_bytes w) words
@@ -74,6 +78,14 @@ given_of blocks workers block heap budget = None
 -- the number that a value spells
 abbrev pub number_in : Option Text → Option ℕ
 number_in text = option_and_then number_of text
+
+-- a number, where it is at most 2^32
+abbrev pub as_count : ℕ → Option ℕ
+as_count n = if nat_le n 4294967296 then Some n else None
+
+-- the number of at most 2^32 that a value spells
+abbrev pub count_in : Option Text → Option ℕ
+count_in text = option_and_then as_count (number_in text)
 
 -- the budget and its unit, by the values of `--memory` and `--memory-bytes`, where just one is there
 abbrev pub budget_of : Option Text → Option Text → Option (ℕ × BudgetUnit)

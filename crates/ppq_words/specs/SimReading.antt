@@ -1,8 +1,8 @@
 -- What the words of the command `sim` say, from the rules of the command line.
-use Rattle.std.specs.Prelude.{ℕ, Bool, List, [], ◌∷◌, Option, Some, None, if◌then◌else◌, codes, nat_le, option_and_then}
+use Rattle.std.specs.Prelude.{ℕ, Bool, List, [], ◌∷◌, Option, Some, None, codes, option_and_then}
 use Rattle.ppq_words.specs.declared.sim_arguments.SimArguments.{SimArguments}
 use Rattle.ppq_words.specs.Given.{Given}
-use Rattle.ppq_words.specs.Reading.{not_empty, number_in, given_by}
+use Rattle.ppq_words.specs.Reading.{not_empty, number_in, count_in, given_by}
 use Rattle.ppq_words.specs.Strays.{may_parse}
 use Rattle.ppq_words.specs.Uses.{Text, alone}
 use Rattle.ppq_words.specs.Usage.{Usage, values_in}
@@ -26,14 +26,6 @@ pub record SimReading : Type 0 where
 abbrev pub as_sim_reading : SimArguments → SimReading
 as_sim_reading a = record { agenda = a.agenda.now; device = a.device.now; given = a.given; until = a.until; events = a.events }
 
--- a number of events, where it is in its range
-abbrev pub event_count : ℕ → Option ℕ
-event_count n = if nat_le n 4294967296 then Some n else None
-
--- the number of events that a value spells
-abbrev pub events_in : Option Text → Option ℕ
-events_in text = option_and_then event_count (number_in text)
-
 -- two names, the sizes and two numbers, where none is missing
 abbrev pub sim_reading_from : Option Text → Option Text → Option Given → Option ℕ → Option ℕ → Option SimReading
 sim_reading_from (Some agenda) (Some device) (Some given) (Some until) (Some events) = Some (record { agenda = agenda; device = device; given = given; until = until; events = events })
@@ -42,7 +34,7 @@ sim_reading_from agenda device given until events = None
 -- what the values under names say
 abbrev pub sim_reading_by : (Text → Option Text) → Option SimReading
 sim_reading_by value =
-    sim_reading_from (option_and_then not_empty (value alone)) (option_and_then not_empty (value (codes "--device"))) (given_by value) (number_in (value (codes "--until"))) (events_in (value (codes "--events")))
+    sim_reading_from (option_and_then not_empty (value alone)) (option_and_then not_empty (value (codes "--device"))) (given_by value) (number_in (value (codes "--until"))) (count_in (value (codes "--events")))
 
 -- the reading of the words, where they have one
 abbrev pub sim_reading_of : List Text → Option SimReading

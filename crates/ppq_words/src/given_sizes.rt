@@ -1,7 +1,7 @@
 //! The sizes of a queue, before it is known how wide its records are.
 ghost use Rattle.std.specs.Prelude.{◌≡◌, ◌≤◌};
 ghost use Rattle.ppq_words.specs.Given.{given_as};
-ghost use Rattle.ppq_words.specs.Reading.{in_range, sizes_for};
+ghost use Rattle.ppq_words.specs.Reading.{in_range, sizes_for, half_sizes_for};
 
 use crate::BudgetUnit;
 use ppq_budget::Sizes;
@@ -83,5 +83,17 @@ impl GivenSizes {
     {
         let memory = self.unit.records(self.budget, width);
         Sizes::new(self.workers, self.block, self.heap, memory, self.blocks).unwrap()
+    }
+
+    /// The sizes of each of two queues that share the budget and the device, for records of this width in
+    /// bytes, which is at least 16. Each has half of the budget's records and half of the blocks, both
+    /// rounded down; the other numbers are those of `for_width`.
+    pub fn half_for_width(&self, width: u64) -> Sizes
+        requires { 16 ≤ width }
+        ensures { result ≡ half_sizes_for width self.now }
+    {
+        let memory = self.unit.records(self.budget, width) / 2;
+        let blocks = self.blocks / 2;
+        Sizes::new(self.workers, self.block, self.heap, memory, blocks).unwrap()
     }
 }

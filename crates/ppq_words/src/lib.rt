@@ -9,6 +9,10 @@
 //! --until T --events E`: the same for a simulation, with the word `sim`, the agenda's name in place of
 //! the script's, and other options in place of `--form`.
 //!
+//! `sweep EDGES --device FILE --blocks D --workers P --block B --heap H (--memory M | --memory-bytes N)
+//! --nodes V`: the same for a sweep over a graph, with the word `sweep`, the name of the file of edges in
+//! place of the script's, and another option in place of `--form`.
+//!
 //! A command is a description (`Usage`): its word, and its options. The crate looks for the word and
 //! for stray hyphens first, then `clap` splits the words into names and values, and then the crate
 //! reads the values: what must stand, what excludes what, and numbers by the grammar of scripts.
@@ -23,6 +27,10 @@ mod sim_laws;
 mod sim_values;
 mod sim_words;
 mod strays;
+mod sweep_arguments;
+mod sweep_laws;
+mod sweep_values;
+mod sweep_words;
 mod usage;
 mod values;
 mod words;
@@ -40,4 +48,7 @@ pub use run_arguments::RunArguments;
 pub use sim_arguments::SimArguments;
 pub use sim_laws::sim_words_mean;
 pub use sim_words::read_sim_words;
+pub use sweep_arguments::SweepArguments;
+pub use sweep_laws::sweep_words_mean;
+pub use sweep_words::read_sweep_words;
 pub use words::read_words;

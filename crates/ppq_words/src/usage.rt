@@ -67,6 +67,21 @@ pub(crate) const SIM: Usage = Usage {
     ],
 };
 
+// The command `sweep`.
+pub(crate) const SWEEP: Usage = Usage {
+    word: "sweep",
+    options: &[
+        "--device",
+        "--blocks",
+        "--workers",
+        "--block",
+        "--heap",
+        "--memory",
+        "--memory-bytes",
+        "--nodes",
+    ],
+};
+
 impl Usage {
     // The command as `clap` is told of it. Its word stands for the program's name, and nothing is
     // required or excluded.

@@ -1,7 +1,7 @@
 //! What the values of a parse say.
 ghost use Rattle.std.specs.Prelude.{◌≡◌, option_map, option_and_then, codes};
 ghost use Rattle.clap.specs.Words.{first_value, found_of};
-ghost use Rattle.ppq_words.specs.Reading.{as_reading, not_empty, number_in, budget_of, given_by, form_of, reading_by};
+ghost use Rattle.ppq_words.specs.Reading.{as_reading, not_empty, number_in, count_in, budget_of, given_by, form_of, reading_by};
 
 use crate::{BudgetUnit, GivenSizes, RunArguments};
 use clap::ArgMatches;
@@ -20,6 +20,17 @@ pub(crate) fn number_under(matches: &ArgMatches<'_>, id: &str) -> Option<u64>
     ensures { result ≡ number_in (first_value (found_of matches.now) id.now) }
 {
     number(matches.get_str(id)?.as_bytes())
+}
+
+// The value under a name, where it is a number of at most 4,294,967,296.
+pub(crate) fn count_under(matches: &ArgMatches<'_>, id: &str) -> Option<u64>
+    ensures { result ≡ count_in (first_value (found_of matches.now) id.now) }
+{
+    let count = number_under(matches, id)?;
+    if count > 4_294_967_296 {
+        return None;
+    }
+    Some(count)
 }
 
 // The budget and its unit, where it is given in just one.
