@@ -1,5 +1,5 @@
 -- What a status says of the outcome that has it, whatever the command is.
-use Rattle.std.proofs.Common.{◌≡◌, ◌∙◌, ℕ, Bool, true, false, List, [], ◌∷◌, Option, None, refl, sym, ap, subst, inl, inr}
+use Rattle.std.proofs.Common.{◌≡◌, ◌∙◌, ℕ, Bool, true, false, List, [], ◌∷◌, Option, None, refl, sym, subst, inl, inr}
 use Rattle.std.specs.Prelude.{◌⊎◌, if◌then◌else◌, codes, bytes_eq, IfSome, IsTrue, String}
 use Rattle.std.specs.declared.alloc.Global.{Global}
 use Rattle.std.proofs.lemmas.Slice.Eq.{bytes_eq-Decides}
@@ -9,8 +9,8 @@ use Rattle.ppq_words.specs.ppq_outside.declared.rack.Rack.{Ghosts as RackShows}
 use Rattle.ppq_words.specs.ppq_outside.declared.sink.Sink.{Ghosts as SinkShows}
 use Rattle.ppq_words.specs.Reading.{Reading, reading_of, texts_of}
 use Rattle.ppq_words.specs.Uses.{Text}
-use Rattle.ppq_agenda.specs.ppq_engine.declared.end.Ended.{Ended}
-use Rattle.ppq_agenda.specs.ppq_handler.Roster.{Place}
+use Rattle.ppq_jobs.specs.ppq_engine.declared.end.Ended.{Ended}
+use Rattle.ppq_jobs.specs.ppq_handler.Roster.{Place}
 use Rattle.ppq_cli.specs.declared.subcommand.Subcommand.{Subcommand}
 use Rattle.ppq_cli.specs.declared.subcommand.Subcommand.TheVariants.{Run, Sim, Sweep}
 use Rattle.ppq_cli.specs.AllWords.{subcommand_of, AllWords}
@@ -74,4 +74,4 @@ module _
     by_command : (command : Subcommand) → subcommand_of (texts_of words) ≡ command → SaidByStatus library rack sink words old_library old_rack old_out new_out status
     by_command Run is = of_run (all.run is)
     by_command Sim is = of_other (unread_by Sim (λ e. cc) (texts_of words) is) (unwritten (all.sim is).written.nothing)
-    by_command Sweep is = of_other (unread_by Sweep (λ e. cc) (texts_of words) is) (λ none. ap sink.told ((all.sweep is).unasked refl).1.1)
+    by_command Sweep is = of_other (unread_by Sweep (λ e. cc) (texts_of words) is) (unwritten (all.sweep is).written.nothing)

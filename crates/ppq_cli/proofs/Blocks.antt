@@ -11,7 +11,7 @@ use Rattle.std.proofs.lemmas.List.Sorted.{IsPermutation-refl, IsPermutation-cons
 use Rattle.std.proofs.lemmas.Simd.{map-map}
 use Rattle.ppq_words.specs.ppq_outside.Shown.{Shown}
 use Rattle.ppq_words.specs.ppq_outside.Made.{HasMade, HasMadeJust}
-use Rattle.ppq_agenda.specs.ppq_engine.ppq_array.Kept.{weight_at, times_of, SameSlots}
+use Rattle.ppq_jobs.specs.ppq_engine.ppq_array.Kept.{weight_at, times_of, SameSlots}
 use Rattle.ppq_cli.specs.RunWords.{reading, OfWords}
 use Rattle.ppq_cli.proofs.Transfers.{of_any}
 

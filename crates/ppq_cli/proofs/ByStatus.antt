@@ -1,8 +1,8 @@
 -- What a status says of its end.
 use Rattle.std.proofs.Common.{◌≡◌, inl, inr, refl, subst, arith}
 use Rattle.std.specs.Prelude.{IsTrue}
-use Rattle.ppq_agenda.specs.ppq_engine.declared.end.End.{End}
-use Rattle.ppq_agenda.specs.ppq_engine.declared.end.End.TheVariants.{Done, ReadFault, WriteFault, DeviceFault, NoFreeBlock, Memory, FileChanged}
+use Rattle.ppq_jobs.specs.ppq_engine.declared.end.End.{End}
+use Rattle.ppq_jobs.specs.ppq_engine.declared.end.End.TheVariants.{Done, ReadFault, WriteFault, DeviceFault, NoFreeBlock, Memory, FileChanged}
 use Rattle.ppq_cli.specs.Outside.{MayWrite}
 use Rattle.ppq_cli.specs.Status.{status_of, writes_nothing}
 

@@ -14,13 +14,13 @@ use Rattle.ppq_words.specs.ppq_script.Files.{IsLength}
 use Rattle.ppq_words.specs.ppq_script.Checking.{IsKeptLength}
 use Rattle.ppq_words.specs.ppq_script.Reading.{Reading, command_list}
 use Rattle.ppq_words.specs.Reading.{Reading as Arguments, sizes_at}
-use Rattle.ppq_agenda.specs.ppq_engine.Ends.{NoFault}
-use Rattle.ppq_agenda.specs.ppq_engine.Files.{IsReadInScript}
-use Rattle.ppq_agenda.specs.ppq_engine.Work.{work_of}
-use Rattle.ppq_agenda.specs.ppq_engine.declared.end.End.{End}
-use Rattle.ppq_agenda.specs.ppq_engine.declared.end.End.TheVariants.{ReadFault, WriteFault, NoDevice}
-use Rattle.ppq_agenda.specs.ppq_engine.declared.end.Ended.{Ended}
-use Rattle.ppq_agenda.proofs.ppq_engine.Running.{takes_none}
+use Rattle.ppq_jobs.specs.ppq_engine.Ends.{NoFault}
+use Rattle.ppq_jobs.specs.ppq_engine.Files.{IsReadInScript}
+use Rattle.ppq_jobs.specs.ppq_engine.Work.{work_of}
+use Rattle.ppq_jobs.specs.ppq_engine.declared.end.End.{End}
+use Rattle.ppq_jobs.specs.ppq_engine.declared.end.End.TheVariants.{ReadFault, WriteFault, NoDevice}
+use Rattle.ppq_jobs.specs.ppq_engine.declared.end.Ended.{Ended}
+use Rattle.ppq_jobs.proofs.ppq_engine.Running.{takes_none}
 use Rattle.ppq_cli.specs.Device.{IsSurelyRun}
 use Rattle.ppq_cli.specs.Outside.{Faults, OutsideKept}
 use Rattle.ppq_cli.specs.Load.{check_end, CheckCounts}

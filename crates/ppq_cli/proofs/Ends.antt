@@ -18,19 +18,19 @@ use Rattle.ppq_words.specs.ppq_script.Lines.{names_of, numbered_of}
 use Rattle.ppq_words.specs.ppq_script.Checking.{with_sizes}
 use Rattle.ppq_words.specs.ppq_script.declared.form.Form.{Form}
 use Rattle.ppq_words.specs.ppq_script.Reading.{Reading, command_list}
-use Rattle.ppq_words.specs.Given.{Given}
-use Rattle.ppq_words.specs.Reading.{Reading as Arguments, sizes_at, sizes_for}
-use Rattle.ppq_agenda.specs.ppq_engine.ppq_load.Given.{records_of}
-use Rattle.ppq_agenda.specs.ppq_engine.Loads.{begins_limit}
-use Rattle.ppq_agenda.specs.ppq_engine.Refusal.{HasRoom, HasNoRoom}
-use Rattle.ppq_agenda.specs.ppq_engine.Output.{AreFilesOf, KeepsLengths, given_of}
-use Rattle.ppq_agenda.specs.ppq_engine.Running.{HasChanged}
-use Rattle.ppq_agenda.specs.ppq_engine.Outcome.{TakesBeforeFile, TakesBeforeLoad, FaultBeforeFile}
-use Rattle.ppq_agenda.specs.ppq_engine.Ends.{Class, Refused, HasBegun, IsRefusal, class_of, budget_refusal, BeganCommands, BeganOrRefused, NoFault}
-use Rattle.ppq_agenda.specs.ppq_engine.declared.end.End.{End}
-use Rattle.ppq_agenda.specs.ppq_engine.declared.end.End.TheVariants.{Done, BadLine, ReadFault, WriteFault, DeviceFault, NoFreeBlock, BudgetTooSmall, Memory, FileChanged, NoDevice, NoScript, ScriptTooLong}
-use Rattle.ppq_agenda.proofs.ppq_engine.Lengths.{keeps_lengths}
-use Rattle.ppq_cli.specs.Budget.{need_for, refusal_for}
+use Rattle.ppq_words.specs.Reading.{Reading as Arguments, sizes_at}
+use Rattle.ppq_jobs.specs.ppq_engine.ppq_load.Given.{records_of}
+use Rattle.ppq_jobs.specs.ppq_engine.Loads.{begins_limit}
+use Rattle.ppq_jobs.specs.ppq_engine.Refusal.{HasRoom, HasNoRoom}
+use Rattle.ppq_jobs.specs.ppq_engine.Output.{AreFilesOf, KeepsLengths, given_of}
+use Rattle.ppq_jobs.specs.ppq_engine.Running.{HasChanged}
+use Rattle.ppq_jobs.specs.ppq_engine.Outcome.{TakesBeforeFile, TakesBeforeLoad, FaultBeforeFile}
+use Rattle.ppq_jobs.specs.ppq_engine.Ends.{Class, Refused, HasBegun, IsRefusal, class_of, budget_refusal, BeganCommands, BeganOrRefused, NoFault}
+use Rattle.ppq_jobs.specs.ppq_engine.declared.end.End.{End}
+use Rattle.ppq_jobs.specs.ppq_engine.declared.end.End.TheVariants.{Done, BadLine, ReadFault, WriteFault, DeviceFault, NoFreeBlock, BudgetTooSmall, Memory, FileChanged, NoDevice, NoScript, ScriptTooLong, BadEdge}
+use Rattle.ppq_jobs.proofs.ppq_engine.Lengths.{keeps_lengths}
+use Rattle.ppq_cli.specs.declared.plan.Plan.{Plan}
+use Rattle.ppq_cli.specs.Budget.{plan_for, refusal_by}
 use Rattle.ppq_cli.specs.Load.{load_end, check_end, script_kinds}
 use Rattle.ppq_cli.specs.RunWords.{refusal_of_budget, refusal_of_bad, refusal_of_bytes, refusal_of_file, script_commands, script_given, IsTried, IsGivenUp, IsAnswer, IsTriedOrRefusal, About, Measure, OfBytes, OfFile, IsTooLarge, EndsWell}
 use Rattle.ppq_cli.specs.Outside.{MayWrite}
@@ -61,16 +61,16 @@ reaches memory fixed need end run (inl (h, is)) = absurd (subst BeganCommands is
 reaches memory fixed need end run (inr (inl (h, tried))) = h
 reaches memory fixed need end run (inr (inr is)) = absurd (subst BeganCommands is run)
 
--- the same by what the end says of such a budget
-module _ (width : ℕ) (given : Given) where
-  pub ways : (end : End) → IsTriedOrRefusal (refusal_for width given) end → Ways (sizes_for width given).memory (fixed_of (sizes_for width given)) (need_for width given) end
+-- the same by what the end says of the budget of a plan
+module _ (plan : Plan) where
+  pub ways : (end : End) → IsTriedOrRefusal (refusal_by plan) end → Ways plan.sizes.memory (fixed_of plan.sizes) plan.need end
   ways end answer =
-      let memory = (sizes_for width given).memory in
-      let fixed = fixed_of (sizes_for width given) in
-      ways_by (nat_lt memory fixed) memory fixed (need_for width given) end (ltb-true memory fixed) (ltb-false memory fixed) answer
+      let memory = plan.sizes.memory in
+      let fixed = fixed_of plan.sizes in
+      ways_by (nat_lt memory fixed) memory fixed plan.need end (ltb-true memory fixed) (ltb-false memory fixed) answer
 
-  pub enough : (end : End) → BeganCommands end → IsTriedOrRefusal (refusal_for width given) end → fixed_of (sizes_for width given) ≤ (sizes_for width given).memory
-  enough end run answer = reaches (sizes_for width given).memory (fixed_of (sizes_for width given)) (need_for width given) end run (ways end answer)
+  pub enough : (end : End) → BeganCommands end → IsTriedOrRefusal (refusal_by plan) end → fixed_of plan.sizes ≤ plan.sizes.memory
+  enough end run answer = reaches plan.sizes.memory (fixed_of plan.sizes) plan.need end run (ways end answer)
 
 -- where nothing was begun, and memory was not wanting, the sink took nothing
 unwritten : (X : Type 0) (end : End) → (BeganCommands end → ⊥) → (end ≡ Memory → ⊥) → MayWrite end ⊎ X → X
@@ -87,6 +87,7 @@ module _ {R : Type 0} (words : Words R) (told : Option Files) (replied : Reply �
   run_refuses (BudgetTooSmall need) run changed = absurd run
   run_refuses (FileChanged line said got) run changed = changed line said got refl
   run_refuses NoDevice run changed = absurd run
+  run_refuses (BadEdge at) run changed = absurd run
   run_refuses end run changed = begun_unrefused (class_of end) run
 
   -- a script that was read is refused for its budget, its device, or a file that had changed
@@ -96,7 +97,7 @@ module _ {R : Type 0} (words : Words R) (told : Option Files) (replied : Reply �
   loaded_refusal script end is answer changed =
       let good : OfGood words told replied r bytes (λ script. Unit {0}) = (script, (is, tt)) in
       let P : End → Type 0 = λ e. RefusalOf words told replied r bytes e in
-      elim (ways words.WIDTH r.given end answer) as (λ _. RefusalOf words told replied r bytes end) [
+      elim (ways (plan_for words.WIDTH r.given) end answer) as (λ _. RefusalOf words told replied r bytes end) [
         | inl (h, e) ↦ subst P (sym e) ((h, refl), good)
         | inr (inl (h, inl run)) ↦ run_refuses end run (λ line said got e. (h, (script, (is, changed line said got e))))
         | inr (inl (h, inr e)) ↦ subst P (sym e) (h, good)
@@ -108,17 +109,17 @@ module _ {R : Type 0} (words : Words R) (told : Option Files) (replied : Reply �
       (tells : Type 0) (script : Reading R) (before now : Option (List ℕ)) (blocks : List Shown) (end : End)
       → IsScript words told replied bytes r.given.numbers.workers script → IsTriedOrRefusal (refusal_of_budget words r) end → RunWrites words tells told before now r script blocks end
       → WroteNothing before now end ⊎ RunOf words tells told replied r bytes before now blocks end
-  loaded_run tells script before now blocks Done is answer w = inr (enough words.WIDTH r.given Done tt answer, (script, (is, w.done refl)))
-  loaded_run tells script before now blocks ReadFault is answer w = inr (enough words.WIDTH r.given ReadFault tt answer, (script, (is, w.file)))
-  loaded_run tells script before now blocks WriteFault is answer w = inr (enough words.WIDTH r.given WriteFault tt answer, (script, (is, w.part)))
-  loaded_run tells script before now blocks (DeviceFault number) is answer w = inr (enough words.WIDTH r.given (DeviceFault number) tt answer, (script, (is, w.part)))
-  loaded_run tells script before now blocks NoFreeBlock is answer w = inr (enough words.WIDTH r.given NoFreeBlock tt answer, (script, (is, w.full refl)))
+  loaded_run tells script before now blocks Done is answer w = inr (enough (plan_for words.WIDTH r.given) Done tt answer, (script, (is, w.done refl)))
+  loaded_run tells script before now blocks ReadFault is answer w = inr (enough (plan_for words.WIDTH r.given) ReadFault tt answer, (script, (is, w.file)))
+  loaded_run tells script before now blocks WriteFault is answer w = inr (enough (plan_for words.WIDTH r.given) WriteFault tt answer, (script, (is, w.part)))
+  loaded_run tells script before now blocks (DeviceFault number) is answer w = inr (enough (plan_for words.WIDTH r.given) (DeviceFault number) tt answer, (script, (is, w.part)))
+  loaded_run tells script before now blocks NoFreeBlock is answer w = inr (enough (plan_for words.WIDTH r.given) NoFreeBlock tt answer, (script, (is, w.full refl)))
   loaded_run tells script before now blocks Memory is answer w =
       elim (w.memory refl) as (λ _. WroteNothing before now Memory ⊎ OfGood words told replied r bytes (HasRunToLoad words r.form tells told before now)) [
         | inl same ↦ inl (record { maybe = λ run. run; same = same })
         | inr ran ↦ inr (script, (is, ran))
       ]
-  loaded_run tells script before now blocks (FileChanged line said got) is answer w = inr (enough words.WIDTH r.given (FileChanged line said got) tt answer, (script, (is, w.file)))
+  loaded_run tells script before now blocks (FileChanged line said got) is answer w = inr (enough (plan_for words.WIDTH r.given) (FileChanged line said got) tt answer, (script, (is, w.file)))
   loaded_run tells script before now blocks end is answer w = inl (idle before now end (λ run. run) (λ run. run) (λ e. cc) w.nothing)
 
 -- the answer for a script that was read

@@ -10,8 +10,8 @@ use Rattle.ppq_words.specs.ppq_script.Files.{IsLength}
 use Rattle.ppq_words.specs.ppq_script.Checking.{IsKeptLength}
 use Rattle.ppq_words.specs.ppq_script.Reading.{Reading}
 use Rattle.ppq_words.specs.Reading.{Reading as Arguments}
-use Rattle.ppq_agenda.specs.ppq_engine.Files.{IsReadInScript}
-use Rattle.ppq_agenda.specs.ppq_engine.declared.end.End.{End}
+use Rattle.ppq_jobs.specs.ppq_engine.Files.{IsReadInScript}
+use Rattle.ppq_jobs.specs.ppq_engine.declared.end.End.{End}
 use Rattle.ppq_cli.specs.Replies.{Files, IsOnFile, AsksOf}
 
 -- first of one file, and then of others too

@@ -12,11 +12,11 @@ use Rattle.ppq_words.specs.ppq_outside.declared.rack.Rack.{Ghosts as RackShows}
 use Rattle.ppq_words.specs.ppq_outside.declared.sink.Sink.{Ghosts as SinkShows}
 use Rattle.ppq_words.specs.ppq_script.Reading.{Reading as Script, command_list}
 use Rattle.ppq_words.specs.Reading.{Reading, sizes_at}
-use Rattle.ppq_agenda.specs.ppq_engine.Output.{AreFilesOf, given_of}
-use Rattle.ppq_agenda.specs.ppq_engine.Ends.{NoFault}
-use Rattle.ppq_agenda.specs.ppq_engine.declared.end.End.{End}
-use Rattle.ppq_agenda.specs.ppq_engine.declared.end.End.TheVariants.{Done, Usage, NoFreeBlock, FileChanged}
-use Rattle.ppq_agenda.specs.ppq_engine.declared.end.Ended.{Ended}
+use Rattle.ppq_jobs.specs.ppq_engine.Output.{AreFilesOf, given_of}
+use Rattle.ppq_jobs.specs.ppq_engine.Ends.{NoFault}
+use Rattle.ppq_jobs.specs.ppq_engine.declared.end.End.{End}
+use Rattle.ppq_jobs.specs.ppq_engine.declared.end.End.TheVariants.{Done, Usage, NoFreeBlock, FileChanged}
+use Rattle.ppq_jobs.specs.ppq_engine.declared.end.Ended.{Ended}
 use Rattle.ppq_cli.specs.Device.{IsSurelyRun}
 use Rattle.ppq_cli.specs.Replies.{Files, OfRun, RefusalOf, RunOf, RunIsRight, TransfersOf, WroteNothing, HasRunWhole, HasRunFull, AsksOf}
 use Rattle.ppq_cli.specs.RunWords.{reading, device_named, blocks_given, About, Measure, OfWords, OfBytes, OfFile, WritesAll, WritesPart, WritesRoom, UsesDevice, load_by, crest_by, most_by, least_by, refusal_of, refusal_of_bytes, refusal_of_file, IsAnswer, IsTooLarge, Completes, RunsWords}

@@ -13,14 +13,13 @@ use Rattle.ppq_words.specs.ppq_outside.declared.sink.Sink.{Ghosts as SinkShows}
 use Rattle.ppq_words.specs.ppq_outside.Shown.{Shown}
 use Rattle.ppq_words.specs.ppq_outside.Told.{Remembers, Rose}
 use Rattle.ppq_words.specs.ppq_budget.Sizes.{Numbers, fixed_of}
-use Rattle.ppq_words.specs.Given.{Given}
-use Rattle.ppq_words.specs.Reading.{sizes_for}
-use Rattle.ppq_agenda.specs.ppq_engine.ppq_array.Kept.{HasFailed, SameSlots}
-use Rattle.ppq_agenda.specs.ppq_engine.Ends.{class_of, BeganCommands, BeganOrRefused, budget_refusal}
-use Rattle.ppq_agenda.specs.ppq_engine.declared.end.End.{End}
-use Rattle.ppq_agenda.specs.ppq_engine.declared.end.End.TheVariants.{Done, ReadFault, WriteFault, DeviceFault, NoFreeBlock, BudgetTooSmall, Memory, NoDevice}
-use Rattle.ppq_agenda.specs.ppq_engine.declared.end.Ended.{Ended}
-use Rattle.ppq_cli.specs.Budget.{need_for, refusal_for}
+use Rattle.ppq_jobs.specs.ppq_engine.ppq_array.Kept.{HasFailed, SameSlots}
+use Rattle.ppq_jobs.specs.ppq_engine.Ends.{class_of, BeganCommands, BeganOrRefused, budget_refusal}
+use Rattle.ppq_jobs.specs.ppq_engine.declared.end.End.{End}
+use Rattle.ppq_jobs.specs.ppq_engine.declared.end.End.TheVariants.{Done, ReadFault, WriteFault, DeviceFault, NoFreeBlock, BudgetTooSmall, Memory, NoDevice}
+use Rattle.ppq_jobs.specs.ppq_engine.declared.end.Ended.{Ended}
+use Rattle.ppq_cli.specs.declared.plan.Plan.{Plan}
+use Rattle.ppq_cli.specs.Budget.{refusal_by}
 use Rattle.ppq_cli.specs.Device.{AreBlocks, ComesBeforeBlocks, HasReason, IsSurelyRun, make_end}
 use Rattle.ppq_cli.specs.DeviceFor.{IsDevice, LacksDevice}
 use Rattle.ppq_cli.specs.Outside.{Faults, OutsideKept}
@@ -29,20 +28,20 @@ use Rattle.ppq_cli.proofs.Blocks.{returned, made_just}
 use Rattle.ppq_cli.proofs.Ends.{begun_unrefused}
 use Rattle.ppq_cli.proofs.Outside.{unrun_unfailed, unrun_failed}
 
-module _ (width : ℕ) (given : Given) where
+module _ (plan : Plan) where
   -- the budget is too small
-  pub small_answer : (sizes_for width given).memory < fixed_of (sizes_for width given) → IsTriedOrRefusal (refusal_for width given) (BudgetTooSmall (need_for width given))
+  pub small_answer : plan.sizes.memory < fixed_of plan.sizes → IsTriedOrRefusal (refusal_by plan) (BudgetTooSmall plan.need)
   small_answer small =
-      let P : Bool → Type 0 = λ b. MatchOption (if b then Some (BudgetTooSmall (need_for width given)) else None) (IsTried (BudgetTooSmall (need_for width given))) (λ e. BudgetTooSmall (need_for width given) ≡ e) in
-      inl (subst P (sym (lt-ltb (sizes_for width given).memory (fixed_of (sizes_for width given)) small)) refl)
+      let P : Bool → Type 0 = λ b. MatchOption (if b then Some (BudgetTooSmall plan.need) else None) (IsTried (BudgetTooSmall plan.need)) (λ e. BudgetTooSmall plan.need ≡ e) in
+      inl (subst P (sym (lt-ltb plan.sizes.memory (fixed_of plan.sizes) small)) refl)
 
   -- the device could not be made
-  no_device : fixed_of (sizes_for width given) ≤ (sizes_for width given).memory → IsTriedOrRefusal (refusal_for width given) NoDevice
+  no_device : fixed_of plan.sizes ≤ plan.sizes.memory → IsTriedOrRefusal (refusal_by plan) NoDevice
   no_device enough =
-      let P : Bool → Type 0 = λ b. MatchOption (if b then Some (BudgetTooSmall (need_for width given)) else None) (IsTried NoDevice) (λ e. NoDevice ≡ e) in
-      inl (subst P (sym (le-ltb (sizes_for width given).memory (fixed_of (sizes_for width given)) enough)) (inr refl))
+      let P : Bool → Type 0 = λ b. MatchOption (if b then Some (BudgetTooSmall plan.need) else None) (IsTried NoDevice) (λ e. NoDevice ≡ e) in
+      inl (subst P (sym (le-ltb plan.sizes.memory (fixed_of plan.sizes) enough)) (inr refl))
 
-  pub unmade_answer : fixed_of (sizes_for width given) ≤ (sizes_for width given).memory → (fault : OutsideFault) → IsTriedOrRefusal (refusal_for width given) (make_end fault)
+  pub unmade_answer : fixed_of plan.sizes ≤ plan.sizes.memory → (fault : OutsideFault) → IsTriedOrRefusal (refusal_by plan) (make_end fault)
   unmade_answer enough outside.Failed = no_device enough
   unmade_answer enough outside.Memory = inr refl
 
@@ -53,15 +52,12 @@ tried (Some e) end (inl is) = inl is
 tried refusal end (inr memory) = inr memory
 
 -- so it was tried where the budget is large enough
-pub begun_answer :
-    (width : ℕ) (given : Given) (sizes : Numbers) (end : End) → sizes ≡ sizes_for width given → fixed_of sizes ≤ sizes.memory → BeganOrRefused (budget_refusal sizes) end
-    → IsTriedOrRefusal (refusal_for width given) end
-begun_answer width given sizes end same enough answer =
-    let large = le-ltb sizes.memory (fixed_of sizes) enough in
-    let P : Bool → Type 0 = λ b. BeganOrRefused (if b then Some (BudgetTooSmall (fixed_of sizes)) else None) end in
-    let Q : Bool → Type 0 = λ b. IsTriedOrRefusal (if b then Some (BudgetTooSmall (need_for width given)) else None) end in
-    let R : Numbers → Type 0 = λ n. IsTriedOrRefusal (if nat_lt n.memory (fixed_of n) then Some (BudgetTooSmall (need_for width given)) else None) end in
-    subst R same (subst Q (sym large) (tried None end (subst P large answer)))
+pub begun_answer : (plan : Plan) (end : End) → fixed_of plan.sizes ≤ plan.sizes.memory → BeganOrRefused (budget_refusal plan.sizes) end → IsTriedOrRefusal (refusal_by plan) end
+begun_answer plan end enough answer =
+    let large = le-ltb plan.sizes.memory (fixed_of plan.sizes) enough in
+    let P : Bool → Type 0 = λ b. BeganOrRefused (if b then Some (BudgetTooSmall (fixed_of plan.sizes)) else None) end in
+    let Q : Bool → Type 0 = λ b. IsTriedOrRefusal (if b then Some (BudgetTooSmall plan.need) else None) end in
+    subst Q (sym large) (tried None end (subst P large answer))
 
 device_made : (refusal : Bool) (need : ℕ) → MatchOption (if refusal then Some (BudgetTooSmall need) else None) (BeganCommands NoDevice) (λ e. NoDevice ≡ e) ⊎ (NoDevice ≡ Memory) → ⊥
 device_made true need (inl is) = cc
@@ -70,7 +66,7 @@ device_made true need (inr is) = cc
 device_made false need (inr is) = cc
 
 -- a run that was begun has a device
-run_made : (sizes : Numbers) (end : End) → BeganOrRefused (budget_refusal sizes) end → end ≡ NoDevice → ⊥
+pub run_made : (sizes : Numbers) (end : End) → BeganOrRefused (budget_refusal sizes) end → end ≡ NoDevice → ⊥
 run_made sizes end answer is = device_made (nat_lt sizes.memory (fixed_of sizes)) (fixed_of sizes) (let P : End → Type 0 = λ e. BeganOrRefused (budget_refusal sizes) e in subst P is answer)
 
 -- the end of a run whose budget is large enough is none of a refusal
@@ -79,7 +75,7 @@ unrefused_by true need end large answer refused = cc
 unrefused_by false need end large (inl began) refused = begun_unrefused (class_of end) began refused
 unrefused_by false need end large (inr memory) refused = subst ComesBeforeBlocks memory refused
 
-run_unrefused : (sizes : Numbers) (end : End) → fixed_of sizes ≤ sizes.memory → BeganOrRefused (budget_refusal sizes) end → ComesBeforeBlocks end → ⊥
+pub run_unrefused : (sizes : Numbers) (end : End) → fixed_of sizes ≤ sizes.memory → BeganOrRefused (budget_refusal sizes) end → ComesBeforeBlocks end → ⊥
 run_unrefused sizes end enough answer refused = unrefused_by (nat_lt sizes.memory (fixed_of sizes)) (fixed_of sizes) end (le-ltb sizes.memory (fixed_of sizes) enough) answer refused
 
 -- the device could not be made: the rack's count rose where it failed
@@ -134,15 +130,15 @@ surely_begun NoFreeBlock run = tt
 surely_begun end run = absurd run
 
 module _
-    {A L K O S : Type 0} (library : LibraryShows L) (rack : RackShows K S) (sink : SinkShows O) (shown : S → Shown) (device : A → List ℕ) (most : A → ℕ) (width : ℕ) (given : Given) (a : A) (same : most a ≡ given.numbers.blocks)
+    {A L K O S : Type 0} (library : LibraryShows L) (rack : RackShows K S) (sink : SinkShows O) (shown : S → Shown) (device : A → List ℕ) (most : A → ℕ) (plan : Plan) (a : A) (same : plan.blocks ≡ most a)
     (old_rack new_rack : K) (ended : Ended S) where
   -- no device was made, and library and sink were left alone
-  pub unmade_outside : (held : L) (out : O) → LacksDevice rack shown width given (device a) old_rack new_rack ended → OutsideKept Rose library rack sink shown (Some a) device most held held old_rack new_rack out out ended
+  pub unmade_outside : (held : L) (out : O) → LacksDevice rack shown plan (device a) old_rack new_rack ended → OutsideKept Rose library rack sink shown (Some a) device most held held old_rack new_rack out out ended
   unmade_outside held out lacks =
       let unrun : IsSurelyRun ended.end → ⊥ = λ run. lacks.unbegun (surely_begun ended.end run) in
       record {
         made = lacks.made;
-        blocks = subst (λ (n : ℕ). AreBlocks n ended.end (map shown ended.blocks.items)) (sym same) lacks.blocks;
+        blocks = subst (λ (n : ℕ). AreBlocks n ended.end (map shown ended.blocks.items)) same lacks.blocks;
         unfailed = unrun_unfailed ended.end unrun;
         failed = λ number is. absurd (unrun_failed ended.end unrun number is);
         rack_tells = lacks.kept;
@@ -153,21 +149,21 @@ module _
 
   -- a device was made, a run was tried over it, and all its blocks come back
   pub ran_outside :
-      (old_library new_library : L) (old_out new_out : O) (sizes : Numbers) (slots : List S)
-      → IsDevice rack shown width given (device a) old_rack new_rack sizes slots → BeganOrRefused (budget_refusal sizes) ended.end → SameSlots (map shown slots) (map shown ended.blocks.items)
+      (old_library new_library : L) (old_out new_out : O) (width : ℕ) (slots : List S)
+      → IsDevice rack shown width plan (device a) old_rack new_rack slots → (ended.end ≡ NoDevice → ⊥) → (ComesBeforeBlocks ended.end → ⊥) → SameSlots (map shown slots) (map shown ended.blocks.items)
       → ((ended.end ≡ Done) ⊎ (ended.end ≡ NoFreeBlock) → All (λ (s : Shown). s.faults ≡ 0) (map shown ended.blocks.items)) → ((number : ℕ) → ended.end ≡ DeviceFault number → HasFailed number (map shown ended.blocks.items))
       → library.told new_library ≡ library.told old_library → Remembers (library.replied old_library) (library.replied new_library)
       → (ended.end ≡ ReadFault → Rose (library.faults old_library) (library.faults new_library)) → (ended.end ≡ WriteFault → Rose (sink.faults old_out) (sink.faults new_out))
       → library.faults old_library ≤ library.faults new_library → (¬ (ended.end ≡ ReadFault) → ¬ (ended.end ≡ WriteFault) → library.faults new_library ≡ library.faults old_library)
       → sink.faults old_out ≤ sink.faults new_out → (¬ (ended.end ≡ WriteFault) → sink.faults new_out ≡ sink.faults old_out)
       → OutsideKept Rose library rack sink shown (Some a) device most old_library new_library old_rack new_rack old_out new_out ended
-  ran_outside old_library new_library old_out new_out sizes slots made answer back unfailed failed files remembers read write library_later library_stays sink_later sink_stays =
+  ran_outside old_library new_library old_out new_out width slots made made_some unrefused back unfailed failed files remembers read write library_later library_stays sink_later sink_stays =
       let slots_back = map shown ended.blocks.items in
       let numbers = returned (map shown slots) slots_back back made.new.numbers in
-      let all : length slots_back ≡ most a = back.length ∙ length-map slots shown ∙ made.all ∙ sym same in
+      let all : length slots_back ≡ most a = back.length ∙ length-map slots shown ∙ made.all ∙ same in
       record {
         made = made_just shown ended.blocks.items (rack.made old_rack (device a)) (rack.made new_rack (device a)) (length slots) numbers (back.length ∙ length-map slots shown) made.made;
-        blocks = record { numbers = numbers; most = omega (arith, all); all = λ run. all; all_or_none = λ run. inl all; none = λ refused. absurd (run_unrefused sizes ended.end made.enough answer refused) };
+        blocks = record { numbers = numbers; most = omega (arith, all); all = λ run. all; all_or_none = λ run. inl all; none = λ refused. absurd (unrefused refused) };
         unfailed = unfailed;
         failed = failed;
         rack_tells = made.kept;
@@ -176,7 +172,7 @@ module _
         faults = record {
           read = read;
           write = write;
-          device = λ is. absurd (run_made sizes ended.end answer is);
+          device = λ is. absurd (made_some is);
           library_later = library_later;
           library_stays = library_stays;
           rack_later = omega (arith, made.stays);

@@ -5,7 +5,7 @@ use Rattle.std.proofs.lemmas.List.{map-append}
 use Rattle.std.proofs.lemmas.List.Elements.{All-push}
 use Rattle.ppq_words.specs.ppq_outside.Shown.{Shown}
 use Rattle.ppq_words.specs.ppq_outside.Made.{HasMade}
-use Rattle.ppq_agenda.specs.ppq_engine.ppq_queue.Holding.{IsNewSlot}
+use Rattle.ppq_jobs.specs.ppq_engine.ppq_queue.Holding.{IsNewSlot}
 use Rattle.ppq_cli.specs.Device.{AreNew}
 
 range-suc : (a n : ℕ) → range_with_len a (suc n) ≡ range_with_len a n ++ (a + n) ∷ []

@@ -6,10 +6,10 @@ use Rattle.ppq_words.specs.ppq_outside.Told.{Remembers, Rose}
 use Rattle.ppq_words.specs.ppq_outside.declared.library.Library.{Ghosts as LibraryShows}
 use Rattle.ppq_words.specs.ppq_outside.declared.rack.Rack.{Ghosts as RackShows}
 use Rattle.ppq_words.specs.ppq_outside.declared.sink.Sink.{Ghosts as SinkShows}
-use Rattle.ppq_agenda.specs.ppq_engine.Ends.{NoFault}
-use Rattle.ppq_agenda.specs.ppq_engine.declared.end.End.{End}
-use Rattle.ppq_agenda.specs.ppq_engine.declared.end.End.TheVariants.{Done, DeviceFault, NoFreeBlock}
-use Rattle.ppq_agenda.specs.ppq_engine.declared.end.Ended.{Ended}
+use Rattle.ppq_jobs.specs.ppq_engine.Ends.{NoFault}
+use Rattle.ppq_jobs.specs.ppq_engine.declared.end.End.{End}
+use Rattle.ppq_jobs.specs.ppq_engine.declared.end.End.TheVariants.{Done, DeviceFault, NoFreeBlock}
+use Rattle.ppq_jobs.specs.ppq_engine.declared.end.Ended.{Ended}
 use Rattle.ppq_cli.specs.Device.{IsSurelyRun}
 use Rattle.ppq_cli.specs.Outside.{IsHigher, Faults, OutsideKept}
 use Rattle.ppq_cli.proofs.Blocks.{made_nothing}

@@ -5,10 +5,10 @@ use Rattle.ppq_words.specs.ppq_outside.Told.{Reply}
 use Rattle.ppq_words.specs.ppq_script.Words.{Words}
 use Rattle.ppq_words.specs.ppq_script.Reading.{Reading}
 use Rattle.ppq_words.specs.Reading.{Reading as Arguments}
-use Rattle.ppq_agenda.specs.ppq_engine.Ends.{Class, Finished, Refused, Unmade, Unread, Broken, Shrunk, Full, GaveUp, class_of, HasBegun, IfFile, BeganCommands}
-use Rattle.ppq_agenda.specs.ppq_engine.declared.end.End.{End}
-use Rattle.ppq_agenda.specs.ppq_engine.declared.end.End.TheVariants.{FileChanged}
-use Rattle.ppq_agenda.proofs.ppq_engine.Running.{takes_none}
+use Rattle.ppq_jobs.specs.ppq_engine.Ends.{Class, Finished, Refused, Unmade, Unread, Broken, Shrunk, Spoiled, Full, GaveUp, class_of, HasBegun, IfFile, BeganCommands}
+use Rattle.ppq_jobs.specs.ppq_engine.declared.end.End.{End}
+use Rattle.ppq_jobs.specs.ppq_engine.declared.end.End.TheVariants.{FileChanged}
+use Rattle.ppq_jobs.proofs.ppq_engine.Running.{takes_none}
 use Rattle.ppq_cli.specs.Replies.{Files}
 use Rattle.ppq_cli.specs.RunOver.{RunWrites, RunEnds}
 use Rattle.ppq_cli.specs.RunWords.{refusal_of_budget, IsTriedOrRefusal}
@@ -21,6 +21,7 @@ no_file Unmade P unbegun = tt
 no_file Unread P unbegun = absurd (unbegun tt)
 no_file Broken P unbegun = tt
 no_file Shrunk P unbegun = absurd (unbegun tt)
+no_file Spoiled P unbegun = tt
 no_file Full P unbegun = tt
 no_file GaveUp P unbegun = tt
 

@@ -14,9 +14,9 @@ use Rattle.ppq_words.specs.ppq_script.Checking.{with_sizes}
 use Rattle.ppq_words.specs.ppq_script.Files.{is_usable, name_at}
 use Rattle.ppq_words.specs.ppq_script.declared.form.Form.{Form}
 use Rattle.ppq_words.specs.Reading.{Reading}
-use Rattle.ppq_agenda.specs.ppq_engine.ppq_load.Given.{records_of}
-use Rattle.ppq_agenda.specs.ppq_engine.declared.end.End.TheVariants.{Done, ScriptTooLong}
-use Rattle.ppq_agenda.specs.ppq_engine.Output.{output_of}
+use Rattle.ppq_jobs.specs.ppq_engine.ppq_load.Given.{records_of}
+use Rattle.ppq_jobs.specs.ppq_engine.declared.end.End.TheVariants.{Done, ScriptTooLong}
+use Rattle.ppq_jobs.specs.ppq_engine.Output.{output_of}
 use Rattle.ppq_cli.specs.Load.{script_kinds}
 use Rattle.ppq_cli.specs.Replies.{Files}
 use Rattle.ppq_cli.specs.RunWords.{About, script_given, script_commands, OfFile, refusal_of, refusal_of_bad, refusal_of_file, IsAnswer}

@@ -8,18 +8,19 @@ use Rattle.ppq_words.specs.ppq_outside.Shown.{Shown}
 use Rattle.ppq_words.specs.ppq_budget.Sizes.{Numbers, AreInRange}
 use Rattle.ppq_words.proofs.ppq_outside.Replies.{no_replies}
 use Rattle.ppq_words.specs.SimReading.{SimReading}
-use Rattle.ppq_agenda.specs.ppq_engine.Refusal.{HasNoRoom}
-use Rattle.ppq_agenda.specs.ppq_engine.Ends.{BeganCommands}
-use Rattle.ppq_agenda.specs.ppq_engine.declared.end.End.{End}
-use Rattle.ppq_agenda.specs.ppq_engine.declared.end.Ended.{Ended}
-use Rattle.ppq_agenda.proofs.ppq_engine.Running.{takes_none}
-use Rattle.ppq_agenda.proofs.ppq_engine.ppq_load.Refusals.{no_room-later}
-use Rattle.ppq_agenda.proofs.Runs.{greatest-take}
-use Rattle.ppq_agenda.specs.ppq_event.Going.{greatest}
-use Rattle.ppq_agenda.specs.ppq_handler.Roster.{Place}
-use Rattle.ppq_agenda.specs.ppq_handler.Agenda.{Run}
-use Rattle.ppq_agenda.specs.Asked.{Asked, count_of, run_of, load_of_run, OfRun}
-use Rattle.ppq_agenda.specs.Ending.{RanOut}
+use Rattle.ppq_jobs.specs.ppq_engine.Refusal.{HasNoRoom}
+use Rattle.ppq_jobs.specs.ppq_engine.Ends.{BeganCommands}
+use Rattle.ppq_jobs.specs.ppq_engine.declared.end.End.{End}
+use Rattle.ppq_jobs.specs.ppq_engine.declared.end.Ended.{Ended}
+use Rattle.ppq_jobs.proofs.ppq_engine.Running.{takes_none}
+use Rattle.ppq_jobs.proofs.ppq_engine.ppq_load.Refusals.{no_room-later}
+use Rattle.ppq_jobs.proofs.Runs.{greatest-take}
+use Rattle.ppq_jobs.specs.ppq_event.Going.{greatest}
+use Rattle.ppq_jobs.specs.ppq_handler.Roster.{Place}
+use Rattle.ppq_jobs.specs.ppq_handler.Agenda.{Run}
+use Rattle.ppq_jobs.specs.Asked.{Asked, count_of, run_of, load_of_run, OfRun}
+use Rattle.ppq_jobs.specs.Ending.{RanOut}
+use Rattle.ppq_cli.specs.Budget.{plan_for}
 use Rattle.ppq_cli.specs.DeviceFor.{LacksDevice}
 use Rattle.ppq_cli.specs.SimOver.{SimsOver}
 use Rattle.ppq_cli.specs.SimWords.{sim_device, sim_blocks}
@@ -41,7 +42,7 @@ module _ (told : Option (List ℕ → Option (List ℕ))) (asked : Asked) (place
 -- no device was made, so nothing was asked or written
 pub unmade_sims :
     {L K O S : Type 0} (library : LibraryShows L) (rack : RackShows K S) (sink : SinkShows O) (shown : S → Shown) (r : SimReading) (size : ℕ) (places : List Place) (held : L) (old_rack new_rack : K) (out : O) (ended : Ended S)
-    → LacksDevice rack shown 24 r.given r.device old_rack new_rack ended → SimsOver library rack sink shown r size places held held old_rack new_rack out out ended
+    → LacksDevice rack shown (plan_for 24 r.given) r.device old_rack new_rack ended → SimsOver library rack sink shown r size places held held old_rack new_rack out out ended
 unmade_sims library rack sink shown r size places held old_rack new_rack out ended lacks =
     let no : (end : End) → BeganCommands end → ended.end ≡ end → ⊥ = λ end began is. lacks.unbegun (subst BeganCommands (sym is) began) in
     record {
@@ -54,5 +55,5 @@ unmade_sims library rack sink shown r size places held old_rack new_rack out end
       answer = lacks.answer;
       changed = λ line said got is. absurd (no _ tt is);
       asks = no_replies (library.replied held) _;
-      outside = unmade_outside library rack sink shown sim_device sim_blocks 24 r.given r refl old_rack new_rack ended held out lacks;
+      outside = unmade_outside library rack sink shown sim_device sim_blocks (plan_for 24 r.given) r refl old_rack new_rack ended held out lacks;
     }

@@ -1,50 +1,44 @@
 -- How what is said of the words of a simulation follows from what its parts say: from the length of the agenda, and from its run.
-use Rattle.std.proofs.Common.{◌≡◌, ◌∙◌, inl, inr, ℕ, ◌+◌, ◌%◌, ◌*◌, ◌<◌, ◌≤◌, ◌^◌, List, [], length, Option, Some, None, refl, sym, ap, subst, arith, eq-eqb}
-use Rattle.std.specs.Prelude.{◌⊎◌, ◌==◌, Bool, true, false, if◌then◌else◌, nat_le, IfSome, String}
+use Rattle.std.proofs.Common.{◌≡◌, ◌∙◌, inl, inr, ℕ, ◌+◌, ◌<◌, ◌≤◌, ◌^◌, List, [], length, Option, Some, None, refl, sym, subst, arith}
+use Rattle.std.specs.Prelude.{true, false, IfSome, String}
 use Rattle.std.specs.declared.alloc.Global.{Global}
-use Rattle.std.proofs.lemmas.Bool.{and_from, le-leb}
 use Rattle.ppq_files.specs.declared.length.LengthFault.{LengthFault}
 use Rattle.ppq_files.specs.declared.length.LengthFault.TheVariants as lengths
-use Rattle.ppq_files.specs.Lengths.{IsRecordLength, is_record_length, LengthRefusalIsRight, LengthFaultAfter}
+use Rattle.ppq_files.specs.Lengths.{IsRecordLength, LengthRefusalIsRight, LengthFaultAfter}
 use Rattle.ppq_files.specs.Reading.{HasLength, IsOn, LibraryKeeps}
 use Rattle.ppq_files.proofs.Asked.{piece_asked}
 use Rattle.ppq_files.proofs.Truth.{AreTrue}
 use Rattle.ppq_words.specs.ppq_outside.Shown.{Shown}
-use Rattle.ppq_words.specs.ppq_outside.Told.{Reply, OfLength, Remembers, RepliesOnly, Rose, TakesAll, TakesPart, length_of, bytes_or_none}
+use Rattle.ppq_words.specs.ppq_outside.Told.{Reply, OfLength, Remembers, RepliesOnly, Rose, TakesAll, TakesPart, bytes_or_none}
 use Rattle.ppq_words.specs.ppq_outside.declared.library.Library.{Ghosts as LibraryShows}
 use Rattle.ppq_words.specs.ppq_outside.declared.rack.Rack.{Ghosts as RackShows}
 use Rattle.ppq_words.specs.ppq_outside.declared.sink.Sink.{Ghosts as SinkShows}
 use Rattle.ppq_words.proofs.ppq_outside.Replies.{no_replies}
-use Rattle.ppq_words.specs.Given.{Given}
 use Rattle.ppq_words.specs.Reading.{texts_of}
 use Rattle.ppq_words.specs.SimReading.{SimReading, may_sim}
-use Rattle.ppq_agenda.specs.ppq_engine.Refusal.{HasNoRoom}
-use Rattle.ppq_agenda.specs.ppq_engine.Ends.{BeganCommands, NoFault, IsCompleted}
-use Rattle.ppq_agenda.specs.ppq_engine.declared.end.End.{End}
-use Rattle.ppq_agenda.specs.ppq_engine.declared.end.End.TheVariants.{Done, BadLine, Usage, ReadFault, WriteFault, DeviceFault, NoFreeBlock, BudgetTooSmall, Memory, FileChanged, NoDevice, NoScript, ScriptTooLong, BadAgenda}
-use Rattle.ppq_agenda.specs.ppq_engine.declared.end.Ended.{Ended}
-use Rattle.ppq_agenda.proofs.ppq_engine.Running.{takes_none}
-use Rattle.ppq_agenda.proofs.ppq_engine.ppq_load.Refusals.{room-not_none}
-use Rattle.ppq_agenda.specs.ppq_handler.Roster.{Place}
-use Rattle.ppq_agenda.specs.ppq_handler.Agenda.{journal}
-use Rattle.ppq_agenda.specs.Asked.{count_of, run_of, load_of_run, OfRun}
-use Rattle.ppq_agenda.specs.Ending.{HasShrunk}
-use Rattle.ppq_cli.specs.Budget.{refusal_for}
+use Rattle.ppq_jobs.specs.ppq_engine.Refusal.{HasNoRoom}
+use Rattle.ppq_jobs.specs.ppq_engine.Ends.{BeganCommands, NoFault, IsCompleted}
+use Rattle.ppq_jobs.specs.ppq_engine.declared.end.End.{End}
+use Rattle.ppq_jobs.specs.ppq_engine.declared.end.End.TheVariants.{Done, BadLine, Usage, ReadFault, WriteFault, DeviceFault, NoFreeBlock, BudgetTooSmall, Memory, FileChanged, NoDevice, NoScript, ScriptTooLong, BadAgenda, BadEdge}
+use Rattle.ppq_jobs.specs.ppq_engine.declared.end.Ended.{Ended}
+use Rattle.ppq_jobs.proofs.ppq_engine.Running.{takes_none}
+use Rattle.ppq_jobs.proofs.ppq_engine.ppq_load.Refusals.{room-not_none}
+use Rattle.ppq_jobs.specs.ppq_handler.Roster.{Place}
+use Rattle.ppq_jobs.specs.ppq_handler.Agenda.{journal}
+use Rattle.ppq_jobs.specs.Asked.{count_of, run_of, load_of_run, OfRun}
+use Rattle.ppq_jobs.specs.Ending.{HasShrunk}
+use Rattle.ppq_cli.specs.Budget.{plan_for, refusal_by}
 use Rattle.ppq_cli.specs.Device.{IsSurelyRun}
 use Rattle.ppq_cli.specs.Load.{length_end}
-use Rattle.ppq_cli.specs.Outside.{MayWrite, IsHigher, Faults, Unreadable}
+use Rattle.ppq_cli.specs.Outside.{IsHigher, Faults, Unreadable}
 use Rattle.ppq_cli.specs.Replies.{Files}
 use Rattle.ppq_cli.specs.RunWords.{IsAnswer, IsTriedOrRefusal}
 use Rattle.ppq_cli.specs.SimOver.{SimsOver}
 use Rattle.ppq_cli.specs.SimWords.{sim_reading, OfSim, sim_device, sim_blocks, sim_sizes, asked_by, AboutRun, OfEvents, OfAgenda, RunsOut, sim_refusal_of_file, sim_refusal_of, OfSize, OfTried, SimEndIsRight, HasNoRoomForAll, EndsWell, HasRoomForAny, SimsWords}
 use Rattle.ppq_cli.proofs.Ends.{ways, enough, completed}
-use Rattle.ppq_cli.proofs.Making.{surely_begun}
+use Rattle.ppq_cli.proofs.FileLengths.{record_length, may_write, tried_read, answer_of, unfound_answer, found_refusal, unfound_faults, unfound_unrun, unfound_read}
 use Rattle.ppq_cli.proofs.Outside.{same_faults, higher_faults, blockless_outside, later_outside, named_outside}
 use Rattle.ppq_cli.proofs.Transfers.{of_any}
-
--- a length of whole records passes the test for one
-record_length : (width size : ℕ) → IsRecordLength width size → is_record_length width size ≡ true
-record_length width size is = and_from (size % width == 0) (nat_le size (4294967296 * width)) (eq-eqb (size % width) 0 is.0) (le-leb size (4294967296 * width) is.1)
 
 -- what holds of a run holds of the agenda's, where its length is known
 pub of_run : (told : Option Files) (r : SimReading) (size : ℕ) (places : List Place) (P : AboutRun) → HasLength told r.agenda size → OfRun told (asked_by r size) places (P r (asked_by r size)) → OfEvents told r places P
@@ -53,20 +47,6 @@ of_run (Some files) r size places P long run = by_file (files r.agenda) (long fi
   by_file : (file : Option (List ℕ)) → length (bytes_or_none file) ≡ size → IfSome file (λ bytes. P r (asked_by r (length bytes)) (run_of files (asked_by r (length bytes)) places))
   by_file None is = tt
   by_file (Some bytes) is = let Q : ℕ → Type 0 = λ n. P r (asked_by r n) (run_of files (asked_by r n) places) in subst Q (sym is) (run files refl)
-
--- what a library replied is true of what it told before, too
-pub honest_before : {L : Type 0} (library : LibraryShows L) (old new : L) → library.told new ≡ library.told old → AreTrue (library.told new) (library.replied new) → AreTrue (library.told old) (library.replied new)
-honest_before library old new same honest = let P : Option Files → Type 0 = λ t. AreTrue t (library.replied new) in subst P same honest
-
--- so a length that it replied is that of its file
-file_length : (file : Option (List ℕ)) (size : ℕ) → Some size ≡ length_of file → length (bytes_or_none file) ≡ size
-file_length None size is = cc
-file_length (Some bytes) size is = cc
-
-pub found_length : (told : Option Files) (replied : Reply → Type 0) (name : List ℕ) (size : ℕ) → AreTrue told replied → replied (OfLength name (Some size)) → HasLength told name size
-found_length told replied name size honest had files is =
-    let all : AreTrue (Some files) replied = (let P : Option Files → Type 0 = λ t. AreTrue t replied in subst P is honest) in
-    file_length (files name) size (all (OfLength name (Some size)) had)
 
 -- Completeness.
 
@@ -119,6 +99,7 @@ replies_complete told replied r (FileChanged line said got) right full fault any
 replies_complete told replied r NoDevice right full fault any = absurd fault
 replies_complete told replied r NoScript right full fault any = absurd (any.there right)
 replies_complete told replied r ScriptTooLong right full fault any = absurd (right tt)
+replies_complete told replied r (BadEdge at) right full fault any = absurd right
 replies_complete told replied r BadAgenda right full fault any =
     let no : false ≡ true = sym right.1.1 ∙ record_length 24 right.0 (any.each right.0 right.1.0).0 in cc
 
@@ -130,94 +111,13 @@ completes_any (Some r) told replied end right full fault = replies_complete told
 
 -- An agenda whose length was not found.
 
-absent_file : (file : Option (List ℕ)) (r : SimReading) → None ≡ length_of file → IsAnswer (sim_refusal_of_file r file) NoScript
-absent_file None r is = inl refl
-absent_file (Some bytes) r is = cc
-
-bad_file : (file : Option (List ℕ)) (r : SimReading) (size : ℕ) → Some size ≡ length_of file → is_record_length 24 size ≡ false → IsAnswer (sim_refusal_of_file r file) BadAgenda
-bad_file None r size is bad = cc
-bad_file (Some bytes) r size is bad =
-    let same : size ≡ length bytes = cc in
-    let P : Bool → Type 0 = λ b. IsAnswer (if b then refusal_for 24 r.given else Some BadAgenda) BadAgenda in
-    subst P (sym (ap (is_record_length 24) (sym same) ∙ bad)) (inl refl)
-
--- where the library tells, its answer is exact
-pub unfound_answer :
-    (told : Option Files) (replied : Reply → Type 0) (r : SimReading) (fault : LengthFault) → AreTrue told replied → LengthRefusalIsRight 24 replied r.agenda fault
-    → IfSome told (λ files. IsAnswer (sim_refusal_of_file r (files r.agenda)) (length_end fault))
-unfound_answer None replied r fault honest refused = tt
-unfound_answer (Some files) replied r lengths.Failed honest refused = inr (inr refl)
-unfound_answer (Some files) replied r lengths.Memory honest refused = inr (inl refl)
-unfound_answer (Some files) replied r lengths.Absent honest refused = absent_file (files r.agenda) r (honest (OfLength r.agenda None) refused)
-unfound_answer (Some files) replied r lengths.NoRecords honest refused = bad_file (files r.agenda) r refused.0 (honest (OfLength r.agenda (Some refused.0)) refused.1.0) refused.1.1
-
-pub unfound_refused : (told : Option Files) (replied : Reply → Type 0) (r : SimReading) (fault : LengthFault) → LengthRefusalIsRight 24 replied r.agenda fault → SimEndIsRight told replied r (length_end fault)
+unfound_refused : (told : Option Files) (replied : Reply → Type 0) (r : SimReading) (fault : LengthFault) → LengthRefusalIsRight 24 replied r.agenda fault → SimEndIsRight told replied r (length_end BadAgenda fault)
 unfound_refused told replied r lengths.Failed refused = λ other. other
 unfound_refused told replied r lengths.Memory refused = λ other. other
 unfound_refused told replied r lengths.Absent refused = refused
 unfound_refused told replied r lengths.NoRecords refused = refused
 
--- the library's count rose where it failed, and else stayed; the others stayed
-still : (library rack sink : ℕ) (end : End) → (end ≡ ReadFault → ⊥) → (end ≡ WriteFault → ⊥) → (end ≡ NoDevice → ⊥) → Faults Rose library library rack rack sink sink end
-still library rack sink end read write device = record {
-  read = λ is. absurd (read is);
-  write = λ is. absurd (write is);
-  device = λ is. absurd (device is);
-  library_later = omega arith;
-  library_stays = λ not_read not_written. refl;
-  rack_later = omega arith;
-  rack_stays = λ unmade. refl;
-  sink_later = omega arith;
-  sink_stays = λ written. refl;
-}
-
-still_by : (library library_now rack sink : ℕ) (end : End) → library_now ≡ library → Faults Rose library library rack rack sink sink end → Faults Rose library library_now rack rack sink sink end
-still_by library library_now rack sink end same faults = let P : ℕ → Type 0 = λ n. Faults Rose library n rack rack sink sink end in subst P (sym same) faults
-
-pub unfound_faults : (library library_now rack sink : ℕ) (fault : LengthFault) → library ≤ library_now → LengthFaultAfter library library_now fault → Faults Rose library library_now rack rack sink sink (length_end fault)
-unfound_faults library library_now rack sink lengths.Failed later after = record {
-  read = λ is. after;
-  write = λ is. cc;
-  device = λ is. cc;
-  library_later = later;
-  library_stays = λ read written. absurd (read refl);
-  rack_later = omega arith;
-  rack_stays = λ unmade. refl;
-  sink_later = omega arith;
-  sink_stays = λ written. refl;
-}
-unfound_faults library library_now rack sink lengths.Memory later after = still_by library library_now rack sink Memory after (still library rack sink Memory (λ is. cc) (λ is. cc) (λ is. cc))
-unfound_faults library library_now rack sink lengths.Absent later after = still_by library library_now rack sink NoScript after (still library rack sink NoScript (λ is. cc) (λ is. cc) (λ is. cc))
-unfound_faults library library_now rack sink lengths.NoRecords later after = still_by library library_now rack sink BadAgenda after (still library rack sink BadAgenda (λ is. cc) (λ is. cc) (λ is. cc))
-
--- no end of it comes of a run
-pub unfound_unrun : (fault : LengthFault) → IsSurelyRun (length_end fault) → ⊥
-unfound_unrun lengths.Failed run = run
-unfound_unrun lengths.Memory run = run
-unfound_unrun lengths.Absent run = run
-unfound_unrun lengths.NoRecords run = run
-
--- nor is it that of arguments without a reading
-pub unfound_read : (fault : LengthFault) → length_end fault ≡ Usage → ⊥
-unfound_read lengths.Failed is = cc
-unfound_read lengths.Memory is = cc
-unfound_read lengths.Absent is = cc
-unfound_read lengths.NoRecords is = cc
-
 -- An agenda whose length was found.
-
-found_file : (file : Option (List ℕ)) (r : SimReading) (size : ℕ) (end : End) → Some size ≡ length_of file → IsRecordLength 24 size → IsTriedOrRefusal (refusal_for 24 r.given) end → IsAnswer (sim_refusal_of_file r file) end
-found_file None r size end is good answer = cc
-found_file (Some bytes) r size end is good answer =
-    let same : size ≡ length bytes = cc in
-    let P : Bool → Type 0 = λ b. IsAnswer (if b then refusal_for 24 r.given else Some BadAgenda) end in
-    subst P (sym (ap (is_record_length 24) (sym same) ∙ record_length 24 size good)) (elim answer as (λ _. IsAnswer (refusal_for 24 r.given) end) [ inl is ↦ inl is | inr memory ↦ inr (inl memory) ])
-
-found_answer :
-    (told : Option Files) (replied : Reply → Type 0) (r : SimReading) (size : ℕ) (end : End) → AreTrue told replied → replied (OfLength r.agenda (Some size)) → IsRecordLength 24 size
-    → IsTriedOrRefusal (refusal_for 24 r.given) end → IfSome told (λ files. IsAnswer (sim_refusal_of_file r (files r.agenda)) end)
-found_answer None replied r size end honest had good answer = tt
-found_answer (Some files) replied r size end honest had good answer = found_file (files r.agenda) r size end (honest (OfLength r.agenda (Some size)) had) good answer
 
 -- its end refuses the budget, the device, or a file that had changed, or nothing
 begun_right :
@@ -232,28 +132,17 @@ begun_right told replied r (FileChanged line said got) began changed = changed l
 begun_right told replied r end began changed = absurd began
 
 found_right :
-    (told : Option Files) (replied : Reply → Type 0) (r : SimReading) (size : ℕ) (end : End) → replied (OfLength r.agenda (Some size)) → IsRecordLength 24 size → IsTriedOrRefusal (refusal_for 24 r.given) end
-    → ((line said got : ℕ) → end ≡ FileChanged line said got → HasShrunk told replied (asked_by r size) line said got) → SimEndIsRight told replied r end
+    (told : Option Files) (replied : Reply → Type 0) (r : SimReading) (size : ℕ) (end : End) → replied (OfLength r.agenda (Some size)) → IsRecordLength 24 size → IsTriedOrRefusal (refusal_by (plan_for 24 r.given)) end
+    → ((line said got : ℕ) → end ≡ FileChanged line said got → HasShrunk told replied r.agenda size line said got) → SimEndIsRight told replied r end
 found_right told replied r size end had good answer changed =
     let P : End → Type 0 = λ e. SimEndIsRight told replied r e in
     let found : OfSize replied r (λ n. Unit {0}) = (size, (had, (good, tt))) in
-    elim (ways 24 r.given end answer) as (λ _. SimEndIsRight told replied r end) [
+    elim (ways (plan_for 24 r.given) end answer) as (λ _. SimEndIsRight told replied r end) [
       | inl (small, is) ↦ subst P (sym is) ((small, refl), found)
       | inr (inl (enough, inl began)) ↦ begun_right told replied r end began (λ line said got is. (enough, (size, (had, (good, changed line said got is)))))
       | inr (inl (enough, inr is)) ↦ subst P (sym is) (enough, found)
       | inr (inr is) ↦ subst P (sym is) (λ refused. refused)
     ]
-
--- its arguments have a reading
-tried_read : (given : Given) (end : End) → IsTriedOrRefusal (refusal_for 24 given) end → end ≡ Usage → ⊥
-tried_read given end answer is =
-    let P : End → Type 0 = λ e. IsTriedOrRefusal (refusal_for 24 given) e in
-    elim (ways 24 given Usage (subst P is answer)) as (λ _. ⊥) [ inl (small, other) ↦ cc | inr (inl (large, inl began)) ↦ began | inr (inl (large, inr other)) ↦ cc | inr (inr other) ↦ cc ]
-
--- where something was written, it was run
-may_write : (end : End) (X : Type 0) → IsSurelyRun end ⊎ X → MayWrite end ⊎ X
-may_write end X (inl run) = inl (inl (surely_begun end run))
-may_write end X (inr same) = inr same
 
 -- The clauses of `sim_words`.
 
@@ -352,12 +241,13 @@ module _
         let had_now : library.replied new (OfLength r.agenda (Some size)) = e.outside.remembers (OfLength r.agenda (Some size)) had in
         let events : (P : AboutRun) → OfRun (library.told mid) (asked_by r size) places (P r (asked_by r size)) → OfAgenda library.told old words places P =
         λ P run. of_words _ (of_run told r size places P long (let Q : Option Files → Type 0 = λ t. OfRun t (asked_by r size) places (P r (asked_by r size)) in subst Q kept.told run)) in
-        let shrunk : (line said got : ℕ) → ended.end ≡ FileChanged line said got → HasShrunk told (library.replied new) (asked_by r size) line said got =
-        λ line said got is. (let Q : Option Files → Type 0 = λ t. HasShrunk t (library.replied new) (asked_by r size) line said got in subst Q kept.told (e.changed line said got is)) in
+        let shrunk : (line said got : ℕ) → ended.end ≡ FileChanged line said got → HasShrunk told (library.replied new) r.agenda size line said got =
+        λ line said got is. (let Q : Option Files → Type 0 = λ t. HasShrunk t (library.replied new) r.agenda size line said got in subst Q kept.told (e.changed line said got is)) in
         let right : OfSim words (λ r. SimEndIsRight told (library.replied new) r ended.end) = of_words _ (found_right told (library.replied new) r size ended.end had_now good e.answer shrunk) in
-        let exact : IfSome told (λ files. IsAnswer (sim_refusal_of (sim_reading words) files) ended.end) = answered told (found_answer told (library.replied mid) r size ended.end honest had good e.answer) in
+        let exact : IfSome told (λ files. IsAnswer (sim_refusal_of (sim_reading words) files) ended.end) = answered told
+        (found_refusal 24 (plan_for 24 r.given) BadAgenda told (library.replied mid) r.agenda size (λ refusal. IsAnswer refusal ended.end) honest had good (answer_of (refusal_by (plan_for 24 r.given)) ended.end e.answer)) in
         let full_any : ended.end ≡ NoFreeBlock → OfSim words (λ r. OfTried (library.replied new) r (HasNoRoomForAll r)) =
-        λ is. of_words _ (enough 24 r.given ended.end (subst BeganCommands (sym is) tt) e.answer, (size, (had_now, (good, e.full_any is)))) in
+        λ is. of_words _ (enough (plan_for 24 r.given) ended.end (subst BeganCommands (sym is) tt) e.answer, (size, (had_now, (good, e.full_any is)))) in
         record {
           written = record {
             done = λ is tells. events (λ r asked run. TakesAll (sink.told old_out) (sink.told new_out) (journal run)) (e.done is tells);
@@ -371,7 +261,7 @@ module _
           outside =
               named_outside library rack sink shown sim_device sim_blocks (sim_reading words) r old new old_rack new_rack old_out new_out ended named few_library few_rack few_sink
               (later_outside library rack sink shown sim_device sim_blocks Rose (Some r) old mid new old_rack new_rack old_out new_out ended kept.told kept.remembers same e.outside);
-          unreadable = readable old new old_rack new_rack old_out new_out (tried_read r.given ended.end e.answer);
+          unreadable = readable old new old_rack new_rack old_out new_out (tried_read (plan_for 24 r.given) ended.end e.answer);
           answer = exact;
           refused = right;
           complete = λ tells fault. completes (sim_reading words) told (library.replied new) places ended.end exact right (λ is. events IsLoadAbove (e.above is tells)) fault;
@@ -383,17 +273,17 @@ module _
         (old new : L) (held : K) (out : O) (fault : LengthFault) → AreTrue (library.told old) (library.replied new) → LengthRefusalIsRight 24 (library.replied new) r.agenda fault
         → LibraryKeeps library.told library.replied (IsOn (library.replied new) r.agenda) old new → library.faults old ≤ library.faults new → LengthFaultAfter (library.faults old) (library.faults new) fault
         → library.faults old < 2 ^ 63 → rack.faults held < 2 ^ 63 → sink.faults out < 2 ^ 63
-        → ended.end ≡ length_end fault → ended.blocks.items ≡ [] → SimsWords library rack sink shown words places old new held held out out ended
+        → ended.end ≡ length_end BadAgenda fault → ended.blocks.items ≡ [] → SimsWords library rack sink shown words places old new held held out out ended
     unfound_sims old new held out fault honest refused kept later after few_library few_rack few_sink is none =
         let told = library.told old in
-        let not_usage : ended.end ≡ Usage → ⊥ = λ usage. unfound_read fault (sym is ∙ usage) in
-        let faults : Faults Rose (library.faults old) (library.faults new) (rack.faults held) (rack.faults held) (sink.faults out) (sink.faults out) (length_end fault) =
-        unfound_faults (library.faults old) (library.faults new) (rack.faults held) (sink.faults out) fault later after in
-        let At : (P : End → Type 0) → P (length_end fault) → P ended.end = λ P holds. subst P (sym is) holds in
-        unrun_sims old new held out ended none (λ run. unfound_unrun fault (subst IsSurelyRun is run)) kept.told kept.remembers
+        let not_usage : ended.end ≡ Usage → ⊥ = λ usage. unfound_read BadAgenda fault (λ e. cc) (sym is ∙ usage) in
+        let faults : Faults Rose (library.faults old) (library.faults new) (rack.faults held) (rack.faults held) (sink.faults out) (sink.faults out) (length_end BadAgenda fault) =
+        unfound_faults BadAgenda (library.faults old) (library.faults new) (rack.faults held) (sink.faults out) fault tt later after in
+        let At : (P : End → Type 0) → P (length_end BadAgenda fault) → P ended.end = λ P holds. subst P (sym is) holds in
+        unrun_sims old new held out ended none (λ run. unfound_unrun BadAgenda fault (λ other. other) (subst IsSurelyRun is run)) kept.told kept.remembers
         (higher_faults (library.faults old) (library.faults new) (rack.faults held) (rack.faults held) (sink.faults out) (sink.faults out) ended.end few_library few_rack few_sink
         (At (λ e. Faults Rose (library.faults old) (library.faults new) (rack.faults held) (rack.faults held) (sink.faults out) (sink.faults out) e) faults))
         (of_words _ kept.asks)
         (readable old new held held out out not_usage)
-        (answered told (At (λ e. IfSome told (λ files. IsAnswer (sim_refusal_of_file r (files r.agenda)) e)) (unfound_answer told (library.replied new) r fault honest refused)))
+        (answered told (At (λ e. IfSome told (λ files. IsAnswer (sim_refusal_of_file r (files r.agenda)) e)) (unfound_answer 24 (plan_for 24 r.given) BadAgenda told (library.replied new) r.agenda fault honest refused)))
         (of_words _ (At (λ e. SimEndIsRight told (library.replied new) r e) (unfound_refused told (library.replied new) r fault refused)))

@@ -10,10 +10,10 @@ use Rattle.ppq_words.specs.ppq_budget.Sizes.{Numbers}
 use Rattle.ppq_words.specs.ppq_script.Words.{Words}
 use Rattle.ppq_words.specs.ppq_script.declared.command.Command.{Command}
 use Rattle.ppq_words.specs.Reading.{Reading as Arguments}
-use Rattle.ppq_agenda.specs.ppq_engine.ppq_counts.Tally.{Tally}
-use Rattle.ppq_agenda.specs.ppq_engine.ppq_queue.Holding.{IsNewSlot}
-use Rattle.ppq_agenda.specs.ppq_engine.Work.{TransfersFew, work_of}
-use Rattle.ppq_agenda.specs.ppq_engine.declared.end.Ended.{Ended}
+use Rattle.ppq_jobs.specs.ppq_engine.ppq_counts.Tally.{Tally}
+use Rattle.ppq_jobs.specs.ppq_engine.ppq_queue.Holding.{IsNewSlot}
+use Rattle.ppq_jobs.specs.ppq_engine.Work.{TransfersFew, work_of}
+use Rattle.ppq_jobs.specs.ppq_engine.declared.end.Ended.{Ended}
 use Rattle.ppq_cli.specs.Device.{AreNew}
 use Rattle.ppq_files.specs.Whole.{IsLoaded}
 use Rattle.ppq_cli.specs.Replies.{Files, TransfersOf}

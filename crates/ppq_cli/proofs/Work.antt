@@ -23,9 +23,9 @@ use Rattle.ppq_words.specs.ppq_script.Checking.{IsAsked, IsAskedFile}
 use Rattle.ppq_words.specs.ppq_script.Reading.{Reading, command_list}
 use Rattle.ppq_words.proofs.ppq_script.Spelling.{Reads-Plain}
 use Rattle.ppq_words.proofs.ppq_script.WordLaws.{Laws}
-use Rattle.ppq_agenda.specs.ppq_engine.ppq_array.Kept.{all_writes}
-use Rattle.ppq_agenda.specs.ppq_engine.ppq_counts.Tally.{Tally, IsCounting, runs_of, bound_of}
-use Rattle.ppq_agenda.specs.ppq_engine.Work.{pushes_of, begins_of, pushed_by, begun_by, work_of, TransfersFew}
+use Rattle.ppq_jobs.specs.ppq_engine.ppq_array.Kept.{all_writes}
+use Rattle.ppq_jobs.specs.ppq_engine.ppq_counts.Tally.{Tally, IsCounting, runs_of, bound_of}
+use Rattle.ppq_jobs.specs.ppq_engine.Work.{pushes_of, begins_of, pushed_by, begun_by, work_of, TransfersFew}
 use Rattle.ppq_cli.specs.Load.{script_kinds}
 use Rattle.ppq_cli.specs.Replies.{Files, IsScript}
 use Rattle.ppq_cli.specs.Transfers.{TransfersWithin}

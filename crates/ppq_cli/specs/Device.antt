@@ -7,10 +7,10 @@ use Rattle.ppq_words.specs.ppq_outside.declared.fault.OutsideFault.{OutsideFault
 use Rattle.ppq_words.specs.ppq_outside.declared.fault.OutsideFault.TheVariants.{Failed, Memory}
 use Rattle.ppq_words.specs.ppq_outside.Told.{Rose}
 use Rattle.ppq_words.specs.ppq_outside.Shown.{Shown, AllTell}
-use Rattle.ppq_agenda.specs.ppq_engine.ppq_queue.Holding.{IsNewSlot}
-use Rattle.ppq_agenda.specs.ppq_engine.Ends.{class_of, HasSurelyRun, IsRefusal, BeganCommands}
-use Rattle.ppq_agenda.specs.ppq_engine.declared.end.End.{End}
-use Rattle.ppq_agenda.specs.ppq_engine.declared.end.End.TheVariants as end
+use Rattle.ppq_jobs.specs.ppq_engine.ppq_queue.Holding.{IsNewSlot}
+use Rattle.ppq_jobs.specs.ppq_engine.Ends.{class_of, HasSurelyRun, IsRefusal, BeganCommands}
+use Rattle.ppq_jobs.specs.ppq_engine.declared.end.End.{End}
+use Rattle.ppq_jobs.specs.ppq_engine.declared.end.End.TheVariants as end
 
 -- new blocks, numbered from 0 in order
 pub record AreNew (bytes : ℕ) (slots : List Shown) : Type 0 where

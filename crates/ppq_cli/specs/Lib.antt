@@ -11,6 +11,8 @@ pub mod RunWords
 pub mod SimOver
 pub mod SimWords
 pub mod Status
+pub mod SweepOver
+pub mod SweepWords
 pub mod Transfers
 pub mod Twice
 pub mod Types

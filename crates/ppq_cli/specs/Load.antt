@@ -1,7 +1,8 @@
--- How loading a script and reading it end, and asking for the length of an agenda.
-use Rattle.std.specs.Prelude.{◌≡◌, ℕ, ◌≤◌, List, Result, OnOk, IfErr, IsErrOf}
+-- How loading a script and reading it end, and asking for the length of a file of records.
+use Rattle.std.specs.Prelude.{◌≡◌, ℕ, ◌≤◌, List, length, Option, Some, None, if◌then◌else◌, Result, OnOk, IfErr, IsErrOf}
 use Rattle.ppq_files.specs.declared.whole.WholeFault.{WholeFault}
 use Rattle.ppq_files.specs.declared.whole.WholeFault.TheVariants.{Failed, Memory, Absent, TooLong, Ended}
+use Rattle.ppq_files.specs.Lengths.{is_record_length}
 use Rattle.ppq_files.specs.declared.length.LengthFault.{LengthFault}
 use Rattle.ppq_files.specs.declared.length.LengthFault.TheVariants as lengths
 use Rattle.ppq_words.specs.ppq_outside.Told.{Rose}
@@ -9,9 +10,11 @@ use Rattle.ppq_words.specs.ppq_script.Words.{Words}
 use Rattle.ppq_words.specs.ppq_script.Lines.{LineKind, lines_of, kinds_of}
 use Rattle.ppq_words.specs.ppq_script.declared.check.CheckFault.{CheckFault}
 use Rattle.ppq_words.specs.ppq_script.declared.check.CheckFault.TheVariants as check
-use Rattle.ppq_agenda.specs.ppq_engine.Ends.{NoFault}
-use Rattle.ppq_agenda.specs.ppq_engine.declared.end.End.{End}
-use Rattle.ppq_agenda.specs.ppq_engine.declared.end.End.TheVariants as end
+use Rattle.ppq_jobs.specs.ppq_engine.Ends.{NoFault}
+use Rattle.ppq_jobs.specs.ppq_engine.declared.end.End.{End}
+use Rattle.ppq_jobs.specs.ppq_engine.declared.end.End.TheVariants as end
+use Rattle.ppq_cli.specs.declared.plan.Plan.{Plan}
+use Rattle.ppq_cli.specs.Budget.{refusal_by}
 
 -- what each line of a script of these bytes is where it stands, for so many workers, if it is about such records
 abbrev pub script_kinds : {R : Type 0} → Words R → List ℕ → ℕ → List (LineKind R)
@@ -25,12 +28,22 @@ load_end Absent = end.NoScript
 load_end TooLong = end.ScriptTooLong
 load_end (Ended said got) = end.FileChanged 0 said got
 
--- why there is no length of an agenda, as an end
-abbrev pub length_end : LengthFault → End
-length_end lengths.Failed = end.ReadFault
-length_end lengths.Memory = end.Memory
-length_end lengths.Absent = end.NoScript
-length_end lengths.NoRecords = end.BadAgenda
+-- why there is no length of a file of records, as an end: this one where the file is not of whole records
+abbrev pub length_end : End → LengthFault → End
+length_end no_records lengths.Failed = end.ReadFault
+length_end no_records lengths.Memory = end.Memory
+length_end no_records lengths.Absent = end.NoScript
+length_end no_records lengths.NoRecords = no_records
+
+-- the answer that refuses a file of so many bytes: first that these are not whole records of this width, or too many of them, then that the budget is
+-- too small
+abbrev pub refusal_of_record_length : ℕ → Plan → End → ℕ → Option End
+refusal_of_record_length width plan no_records size = if is_record_length width size then refusal_by plan else Some no_records
+
+-- before both, that it is not there
+abbrev pub refusal_of_record_file : ℕ → Plan → End → Option (List ℕ) → Option End
+refusal_of_record_file width plan no_records None = Some end.NoScript
+refusal_of_record_file width plan no_records (Some bytes) = refusal_of_record_length width plan no_records (length bytes)
 
 -- a fault of checking a script's files as an end
 abbrev pub check_end : CheckFault → End

@@ -6,11 +6,11 @@ use Rattle.ppq_words.specs.ppq_outside.Told.{Remembers, TakesAll, TakesPart}
 use Rattle.ppq_words.specs.ppq_outside.declared.library.Library.{Ghosts as LibraryShows}
 use Rattle.ppq_words.specs.ppq_outside.declared.rack.Rack.{Ghosts as RackShows}
 use Rattle.ppq_words.specs.ppq_outside.declared.sink.Sink.{Ghosts as SinkShows}
-use Rattle.ppq_agenda.specs.ppq_engine.ppq_array.Kept.{HasFailed}
-use Rattle.ppq_agenda.specs.ppq_engine.Ends.{BeganCommands}
-use Rattle.ppq_agenda.specs.ppq_engine.declared.end.End.{End}
-use Rattle.ppq_agenda.specs.ppq_engine.declared.end.End.TheVariants.{Done, Usage, ReadFault, WriteFault, DeviceFault, NoFreeBlock, Memory, NoDevice}
-use Rattle.ppq_agenda.specs.ppq_engine.declared.end.Ended.{Ended}
+use Rattle.ppq_jobs.specs.ppq_engine.ppq_array.Kept.{HasFailed}
+use Rattle.ppq_jobs.specs.ppq_engine.Ends.{BeganCommands}
+use Rattle.ppq_jobs.specs.ppq_engine.declared.end.End.{End}
+use Rattle.ppq_jobs.specs.ppq_engine.declared.end.End.TheVariants.{Done, Usage, ReadFault, WriteFault, DeviceFault, NoFreeBlock, Memory, NoDevice}
+use Rattle.ppq_jobs.specs.ppq_engine.declared.end.Ended.{Ended}
 use Rattle.ppq_cli.specs.Device.{AreBlocks}
 
 -- the ends after which something may have been written

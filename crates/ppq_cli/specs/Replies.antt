@@ -18,15 +18,15 @@ use Rattle.ppq_words.specs.ppq_script.declared.check.CheckFault.TheVariants as c
 use Rattle.ppq_words.specs.ppq_script.declared.form.Form.{Form}
 use Rattle.ppq_words.specs.ppq_script.Reading.{Reading, command_list}
 use Rattle.ppq_words.specs.Reading.{Reading as Arguments, sizes_at}
-use Rattle.ppq_agenda.specs.ppq_engine.Ends.{Class, Finished, Refused, Unmade, Unread, Broken, Shrunk, Full, GaveUp, class_of, IsRefusal, IfFile}
-use Rattle.ppq_agenda.specs.ppq_engine.Files.{IsReadInScript}
-use Rattle.ppq_agenda.specs.ppq_engine.Loads.{most_of, least_of, begins_limit, FitsWritten, IsLoad}
-use Rattle.ppq_agenda.specs.ppq_engine.Output.{AreFilesOf, given_of, output_of, load_of, crest_of, TakesWithin}
-use Rattle.ppq_agenda.specs.ppq_engine.Refusal.{HasNoRoom}
-use Rattle.ppq_agenda.specs.ppq_engine.Running.{HasChanged}
-use Rattle.ppq_agenda.specs.ppq_engine.Work.{work_of}
-use Rattle.ppq_agenda.specs.ppq_engine.declared.end.End.{End}
-use Rattle.ppq_agenda.specs.ppq_engine.declared.end.End.TheVariants.{BadLine, BudgetTooSmall, FileChanged, NoDevice}
+use Rattle.ppq_jobs.specs.ppq_engine.Ends.{Class, Finished, Refused, Unmade, Unread, Broken, Shrunk, Spoiled, Full, GaveUp, class_of, IsRefusal, IfFile}
+use Rattle.ppq_jobs.specs.ppq_engine.Files.{IsReadInScript}
+use Rattle.ppq_jobs.specs.ppq_engine.Loads.{most_of, least_of, begins_limit, FitsWritten, IsLoad}
+use Rattle.ppq_jobs.specs.ppq_engine.Output.{AreFilesOf, given_of, output_of, load_of, crest_of, TakesWithin}
+use Rattle.ppq_jobs.specs.ppq_engine.Refusal.{HasNoRoom}
+use Rattle.ppq_jobs.specs.ppq_engine.Running.{HasChanged}
+use Rattle.ppq_jobs.specs.ppq_engine.Work.{work_of}
+use Rattle.ppq_jobs.specs.ppq_engine.declared.end.End.{End}
+use Rattle.ppq_jobs.specs.ppq_engine.declared.end.End.TheVariants.{BadLine, BudgetTooSmall, FileChanged, NoDevice, BadEdge}
 use Rattle.ppq_cli.specs.Budget.{need_for, IsBelowNeed}
 use Rattle.ppq_cli.specs.Device.{IsSurelyRun}
 use Rattle.ppq_cli.specs.Load.{check_end, load_end, script_kinds}
@@ -111,6 +111,7 @@ RefusalOf words told replied r bytes (BadLine line) = IsBadLine words replied 1 
 RefusalOf words told replied r bytes (BudgetTooSmall need) = IsTooSmall words r need × OfGood words told replied r bytes (λ script. ⊤)
 RefusalOf words told replied r bytes (FileChanged line said got) = OfRun words told replied r bytes (λ script. HasChanged told replied script line said got)
 RefusalOf words told replied r bytes NoDevice = OfRun words told replied r bytes (λ script. ⊤)
+RefusalOf words told replied r bytes (BadEdge at) = ⊥
 RefusalOf words told replied r bytes end = ¬ IsRefusal (class_of end)
 
 -- the script was not loaded; or it was, as some bytes, and a refusal of it is right for the records that its head names
@@ -175,6 +176,7 @@ RunBy words tells told replied r bytes before now blocks Unmade = ⊥
 RunBy words tells told replied r bytes before now blocks Unread = OfRun words told replied r bytes (HasRunToFile words r.form tells told before now)
 RunBy words tells told replied r bytes before now blocks Broken = OfRun words told replied r bytes (HasRunPart words r.form tells told before now)
 RunBy words tells told replied r bytes before now blocks Shrunk = OfRun words told replied r bytes (HasRunToFile words r.form tells told before now)
+RunBy words tells told replied r bytes before now blocks Spoiled = ⊥
 RunBy words tells told replied r bytes before now blocks Full = OfRun words told replied r bytes (HasRunFull words r.form tells told (sizes_at words.WIDTH r) before now)
 RunBy words tells told replied r bytes before now blocks GaveUp = OfGood words told replied r bytes (HasRunToLoad words r.form tells told before now)
 

@@ -1,8 +1,8 @@
 -- The line that reports an end, and a line that was taken.
 use Rattle.std.specs.Prelude.{◌⊎◌, ℕ, List, [], ◌++◌, Option, codes, decimal}
 use Rattle.ppq_words.specs.ppq_outside.Told.{TakesAll, TakesPart, Rose}
-use Rattle.ppq_agenda.specs.ppq_engine.declared.end.End.{End}
-use Rattle.ppq_agenda.specs.ppq_engine.declared.end.End.TheVariants.{Done, BadLine, Usage, ReadFault, WriteFault, DeviceFault, NoFreeBlock, BudgetTooSmall, Memory, FileChanged, NoDevice, NoScript, ScriptTooLong, BadAgenda}
+use Rattle.ppq_jobs.specs.ppq_engine.declared.end.End.{End}
+use Rattle.ppq_jobs.specs.ppq_engine.declared.end.End.TheVariants.{Done, BadLine, Usage, ReadFault, WriteFault, DeviceFault, NoFreeBlock, BudgetTooSmall, Memory, FileChanged, NoDevice, NoScript, ScriptTooLong, BadAgenda, BadEdge}
 
 -- of a file that ended before its length
 abbrev pub changed_text : ℕ → ℕ → ℕ → List ℕ
@@ -24,6 +24,7 @@ report_of NoDevice = codes "ppq: cannot make the device\n"
 report_of NoScript = codes "ppq: no such script\n"
 report_of ScriptTooLong = codes "ppq: script too long\n"
 report_of BadAgenda = codes "ppq: bad agenda\n"
+report_of (BadEdge at) = codes "ppq: edge " ++ decimal at ++ codes " is bad\n"
 
 -- where the sink tells, it took the whole line; or its count of faults rose, and it took the beginning
 abbrev pub TakesLine : Option (List ℕ) → Option (List ℕ) → ℕ → ℕ → List ℕ → Type 0

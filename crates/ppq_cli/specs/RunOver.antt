@@ -9,11 +9,11 @@ use Rattle.ppq_words.specs.ppq_script.Words.{Words}
 use Rattle.ppq_words.specs.Reading.{Reading as Arguments, sizes_at}
 use Rattle.ppq_words.specs.ppq_script.Reading.{Reading, command_list}
 use Rattle.ppq_words.specs.ppq_budget.Sizes.{Numbers, AreInRange}
-use Rattle.ppq_agenda.specs.ppq_engine.Running.{HasChanged}
-use Rattle.ppq_agenda.specs.ppq_engine.Work.{TransfersFew}
-use Rattle.ppq_agenda.specs.ppq_engine.declared.end.End.{End}
-use Rattle.ppq_agenda.specs.ppq_engine.declared.end.End.TheVariants.{Done, NoFreeBlock, Memory, FileChanged}
-use Rattle.ppq_agenda.specs.ppq_engine.declared.end.Ended.{Ended}
+use Rattle.ppq_jobs.specs.ppq_engine.Running.{HasChanged}
+use Rattle.ppq_jobs.specs.ppq_engine.Work.{TransfersFew}
+use Rattle.ppq_jobs.specs.ppq_engine.declared.end.End.{End}
+use Rattle.ppq_jobs.specs.ppq_engine.declared.end.End.TheVariants.{Done, NoFreeBlock, Memory, FileChanged}
+use Rattle.ppq_jobs.specs.ppq_engine.declared.end.Ended.{Ended}
 use Rattle.ppq_cli.specs.Outside.{OutsideKept, MayWrite}
 use Rattle.ppq_cli.specs.Replies.{Files, HasRunWhole, HasRunPart, HasRunFull, RanToLoad, FaultToFile, WroteNothing, RunOf, RefusalOf, TransfersOf, AsksOf}
 use Rattle.ppq_cli.specs.RunWords.{OfBytes, WritesPart, device_named, blocks_given, refusal_of_budget, refusal_of_bytes, IsAnswer, IsTriedOrRefusal}

@@ -1,7 +1,7 @@
 -- The words of the contract of `run_words`, in the order of its clauses; those that speak of the outside alone are in `Outside`. `run_over`, `run_and_report` and `run_twice` use them too.
 use Rattle.std.specs.Prelude.{◌≡◌, ◌⊎◌, ℕ, List, length, Option, Some, None, if◌then◌else◌, IfSome, nat_lt, MatchOption, map, String}
 use Rattle.std.specs.declared.alloc.Global.{Global}
-use Rattle.ppq_agenda.specs.ppq_engine.ppq_load.Given.{records_of}
+use Rattle.ppq_jobs.specs.ppq_engine.ppq_load.Given.{records_of}
 use Rattle.ppq_words.specs.ppq_outside.Shown.{Shown}
 use Rattle.ppq_words.specs.ppq_outside.Told.{Reply, TakesAll, TakesPart, bytes_or_none}
 use Rattle.ppq_words.specs.ppq_outside.declared.library.Library.{Ghosts as LibraryShows}
@@ -14,14 +14,14 @@ use Rattle.ppq_words.specs.ppq_script.Files.{name_at, is_usable}
 use Rattle.ppq_words.specs.ppq_script.Checking.{with_sizes}
 use Rattle.ppq_words.specs.Reading.{Reading, reading_of, texts_of, sizes_at}
 use Rattle.ppq_words.specs.Strays.{may_run}
-use Rattle.ppq_agenda.specs.ppq_engine.declared.end.End.{End}
-use Rattle.ppq_agenda.specs.ppq_engine.declared.end.End.TheVariants.{Done, BadLine, Usage, ReadFault, NoFreeBlock, Memory, NoDevice, NoScript, ScriptTooLong}
-use Rattle.ppq_agenda.specs.ppq_engine.declared.end.Ended.{Ended}
-use Rattle.ppq_agenda.specs.ppq_engine.Output.{output_of, load_of, crest_of, TakesWithin}
-use Rattle.ppq_agenda.specs.ppq_engine.Loads.{most_of, least_of, begins_limit, FitsWritten}
-use Rattle.ppq_agenda.specs.ppq_engine.Refusal.{HasRoom, HasNoRoom}
-use Rattle.ppq_agenda.specs.ppq_engine.Ends.{BeganCommands, NoFault}
-use Rattle.ppq_agenda.specs.ppq_engine.Work.{work_of}
+use Rattle.ppq_jobs.specs.ppq_engine.declared.end.End.{End}
+use Rattle.ppq_jobs.specs.ppq_engine.declared.end.End.TheVariants.{Done, BadLine, Usage, ReadFault, NoFreeBlock, Memory, NoDevice, NoScript, ScriptTooLong}
+use Rattle.ppq_jobs.specs.ppq_engine.declared.end.Ended.{Ended}
+use Rattle.ppq_jobs.specs.ppq_engine.Output.{output_of, load_of, crest_of, TakesWithin}
+use Rattle.ppq_jobs.specs.ppq_engine.Loads.{most_of, least_of, begins_limit, FitsWritten}
+use Rattle.ppq_jobs.specs.ppq_engine.Refusal.{HasRoom, HasNoRoom}
+use Rattle.ppq_jobs.specs.ppq_engine.Ends.{BeganCommands, NoFault}
+use Rattle.ppq_jobs.specs.ppq_engine.Work.{work_of}
 use Rattle.ppq_cli.specs.Budget.{refusal_for}
 use Rattle.ppq_cli.specs.Outside.{WritesText, IsHigher, OutsideKept, Unreadable}
 use Rattle.ppq_cli.specs.Load.{script_kinds}

@@ -7,13 +7,13 @@ use Rattle.ppq_words.specs.ppq_outside.declared.library.Library.{Ghosts as Libra
 use Rattle.ppq_words.specs.ppq_outside.declared.rack.Rack.{Ghosts as RackShows}
 use Rattle.ppq_words.specs.ppq_outside.declared.sink.Sink.{Ghosts as SinkShows}
 use Rattle.ppq_words.specs.SimReading.{SimReading}
-use Rattle.ppq_agenda.specs.ppq_engine.Refusal.{HasNoRoom}
-use Rattle.ppq_agenda.specs.ppq_engine.declared.end.End.TheVariants.{Done, NoFreeBlock, FileChanged}
-use Rattle.ppq_agenda.specs.ppq_engine.declared.end.Ended.{Ended}
-use Rattle.ppq_agenda.specs.ppq_handler.Roster.{Place}
-use Rattle.ppq_agenda.specs.ppq_handler.Agenda.{journal}
-use Rattle.ppq_agenda.specs.Asked.{count_of, load_of_run, OfRun}
-use Rattle.ppq_agenda.specs.Ending.{RanOut, HasShrunk}
+use Rattle.ppq_jobs.specs.ppq_engine.Refusal.{HasNoRoom}
+use Rattle.ppq_jobs.specs.ppq_engine.declared.end.End.TheVariants.{Done, NoFreeBlock, FileChanged}
+use Rattle.ppq_jobs.specs.ppq_engine.declared.end.Ended.{Ended}
+use Rattle.ppq_jobs.specs.ppq_handler.Roster.{Place}
+use Rattle.ppq_jobs.specs.ppq_handler.Agenda.{journal}
+use Rattle.ppq_jobs.specs.Asked.{count_of, load_of_run, OfRun}
+use Rattle.ppq_jobs.specs.Ending.{RanOut, HasShrunk}
 use Rattle.ppq_cli.specs.Budget.{refusal_for}
 use Rattle.ppq_cli.specs.Device.{IsSurelyRun}
 use Rattle.ppq_cli.specs.Outside.{OutsideKept}
@@ -32,6 +32,6 @@ pub record SimsOver
   pub above : ended.end ≡ NoFreeBlock → rack.tells old_rack → OfRun (library.told old_library) (asked_by r size) places (λ run. HasNoRoom (sim_sizes r) false (load_of_run (count_of (asked_by r size)) run))
   pub full_any : ended.end ≡ NoFreeBlock → HasNoRoomForAll r size
   pub answer : IsTriedOrRefusal (refusal_for 24 r.given) ended.end
-  pub changed : (line said got : ℕ) → ended.end ≡ FileChanged line said got → HasShrunk (library.told old_library) (library.replied new_library) (asked_by r size) line said got
+  pub changed : (line said got : ℕ) → ended.end ≡ FileChanged line said got → HasShrunk (library.told old_library) (library.replied new_library) r.agenda size line said got
   pub asks : RepliesOnly (library.replied old_library) (library.replied new_library) (IsReadWithin r.agenda size)
   pub outside : OutsideKept Rose library rack sink shown (Some r) sim_device sim_blocks old_library new_library old_rack new_rack old_out new_out ended

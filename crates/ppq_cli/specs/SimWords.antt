@@ -1,7 +1,7 @@
 -- The words of the contract of `sim_words`: the agenda that the arguments name, its run, and what is said of it.
-use Rattle.std.specs.Prelude.{◌≡◌, ◌⊎◌, ◌≤◌, ◌+◌, false, ℕ, List, length, Option, Some, None, if◌then◌else◌, IfSome, ⊤, String}
+use Rattle.std.specs.Prelude.{◌≡◌, ◌⊎◌, ◌≤◌, ◌+◌, false, ℕ, List, length, Option, Some, None, IfSome, ⊤, String}
 use Rattle.std.specs.declared.alloc.Global.{Global}
-use Rattle.ppq_files.specs.Lengths.{IsRecordLength, is_record_length, IsAbsent, HasPartRecords}
+use Rattle.ppq_files.specs.Lengths.{IsRecordLength, IsAbsent, HasPartRecords}
 use Rattle.ppq_files.specs.Reading.{IsOn}
 use Rattle.ppq_words.specs.ppq_outside.Shown.{Shown}
 use Rattle.ppq_words.specs.ppq_outside.Told.{Reply, OfLength, RepliesOnly}
@@ -11,17 +11,18 @@ use Rattle.ppq_words.specs.ppq_outside.declared.sink.Sink.{Ghosts as SinkShows}
 use Rattle.ppq_words.specs.ppq_budget.Sizes.{Numbers, fixed_of}
 use Rattle.ppq_words.specs.Reading.{texts_of, sizes_for}
 use Rattle.ppq_words.specs.SimReading.{SimReading, sim_reading_of, may_sim}
-use Rattle.ppq_agenda.specs.ppq_engine.Refusal.{HasRoom, HasNoRoom}
-use Rattle.ppq_agenda.specs.ppq_engine.Ends.{class_of, IsRefusal, NoFault, IsCompleted}
-use Rattle.ppq_agenda.specs.ppq_engine.declared.end.End.{End}
-use Rattle.ppq_agenda.specs.ppq_engine.declared.end.End.TheVariants.{Done, Usage, NoFreeBlock, BudgetTooSmall, Memory, FileChanged, NoDevice, NoScript, BadAgenda}
-use Rattle.ppq_agenda.specs.ppq_engine.declared.end.Ended.{Ended}
-use Rattle.ppq_agenda.specs.ppq_handler.Roster.{Place}
-use Rattle.ppq_agenda.specs.ppq_handler.Agenda.{Run, journal}
-use Rattle.ppq_agenda.specs.Asked.{Asked, count_of, run_of, load_of_run}
-use Rattle.ppq_agenda.specs.Ending.{RanOut, HasShrunk}
-use Rattle.ppq_cli.specs.Budget.{refusal_for, IsBelowNeed}
+use Rattle.ppq_jobs.specs.ppq_engine.Refusal.{HasRoom, HasNoRoom}
+use Rattle.ppq_jobs.specs.ppq_engine.Ends.{class_of, IsRefusal, NoFault, IsCompleted}
+use Rattle.ppq_jobs.specs.ppq_engine.declared.end.End.{End}
+use Rattle.ppq_jobs.specs.ppq_engine.declared.end.End.TheVariants.{Done, Usage, NoFreeBlock, BudgetTooSmall, Memory, FileChanged, NoDevice, NoScript, BadAgenda, BadEdge}
+use Rattle.ppq_jobs.specs.ppq_engine.declared.end.Ended.{Ended}
+use Rattle.ppq_jobs.specs.ppq_handler.Roster.{Place}
+use Rattle.ppq_jobs.specs.ppq_handler.Agenda.{Run, journal}
+use Rattle.ppq_jobs.specs.Asked.{Asked, count_of, run_of, load_of_run}
+use Rattle.ppq_jobs.specs.Ending.{RanOut, HasShrunk}
+use Rattle.ppq_cli.specs.Budget.{plan_for, IsBelow}
 use Rattle.ppq_cli.specs.Device.{IsSurelyRun}
+use Rattle.ppq_cli.specs.Load.{refusal_of_record_length, refusal_of_record_file}
 use Rattle.ppq_cli.specs.Outside.{WritesText, IsHigher, OutsideKept, Unreadable}
 use Rattle.ppq_cli.specs.Replies.{Files}
 use Rattle.ppq_cli.specs.RunWords.{IsAnswer}
@@ -78,12 +79,11 @@ RunsOut told before now r asked run = RanOut (sim_sizes r) (count_of asked) run 
 
 -- the answer that refuses an agenda of so many bytes: first that these are not whole events, or too many of them, then that the budget is too small
 abbrev pub sim_refusal_of_length : SimReading → ℕ → Option End
-sim_refusal_of_length r size = if is_record_length 24 size then refusal_for 24 r.given else Some BadAgenda
+sim_refusal_of_length r size = refusal_of_record_length 24 (plan_for 24 r.given) BadAgenda size
 
 -- before both, that it is not there
 abbrev pub sim_refusal_of_file : SimReading → Option (List ℕ) → Option End
-sim_refusal_of_file r None = Some NoScript
-sim_refusal_of_file r (Some bytes) = sim_refusal_of_length r (length bytes)
+sim_refusal_of_file r file = refusal_of_record_file 24 (plan_for 24 r.given) BadAgenda file
 
 -- before all of them, that the words have no reading
 abbrev pub sim_refusal_of : Option SimReading → Files → Option End
@@ -102,9 +102,10 @@ OfTried replied r P = (fixed_of (sim_sizes r) ≤ (sim_sizes r).memory) × OfSiz
 abbrev pub SimEndIsRight : Option Files → (Reply → Type 0) → SimReading → End → Type 0
 SimEndIsRight told replied r NoScript = IsAbsent replied r.agenda
 SimEndIsRight told replied r BadAgenda = HasPartRecords 24 replied r.agenda
-SimEndIsRight told replied r (BudgetTooSmall need) = IsBelowNeed 24 r.given need × OfSize replied r (λ size. ⊤)
-SimEndIsRight told replied r (FileChanged line said got) = OfTried replied r (λ size. HasShrunk told replied (asked_by r size) line said got)
+SimEndIsRight told replied r (BudgetTooSmall need) = IsBelow (plan_for 24 r.given) need × OfSize replied r (λ size. ⊤)
+SimEndIsRight told replied r (FileChanged line said got) = OfTried replied r (λ size. HasShrunk told replied r.agenda size line said got)
 SimEndIsRight told replied r NoDevice = OfTried replied r (λ size. ⊤)
+SimEndIsRight told replied r (BadEdge at) = ⊥
 SimEndIsRight told replied r end = ¬ IsRefusal (class_of end)
 
 -- the device has too few blocks for the events of the agenda and one for each turn

@@ -2,9 +2,9 @@
 use Rattle.std.specs.Prelude.{◌≡◌, ◌*◌, ◌^◌, ◌<◌, ◌≤◌, List}
 use Rattle.ppq_words.specs.ppq_outside.Shown.{Shown}
 use Rattle.ppq_words.specs.ppq_budget.Sizes.{Numbers}
-use Rattle.ppq_agenda.specs.ppq_engine.ppq_array.Kept.{all_writes, all_reads}
-use Rattle.ppq_agenda.specs.ppq_engine.ppq_counts.Tally.{Tally, runs_of, bound_of}
-use Rattle.ppq_agenda.specs.ppq_engine.ppq_counts.Account.{too_heavy}
+use Rattle.ppq_jobs.specs.ppq_engine.ppq_array.Kept.{all_writes, all_reads}
+use Rattle.ppq_jobs.specs.ppq_engine.ppq_counts.Tally.{Tally, runs_of, bound_of}
+use Rattle.ppq_jobs.specs.ppq_engine.ppq_counts.Account.{too_heavy}
 
 -- Of a queue of these sizes, where so much work makes too few runs to get too heavy: the records that were written, by blocks, are within its
 -- bound, and no more blocks were read than written. The second holds of any work, as long as the counts of blocks are far from their last value

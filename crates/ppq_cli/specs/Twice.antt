@@ -7,9 +7,9 @@ use Rattle.ppq_words.specs.ppq_outside.declared.library.Library.{Ghosts as Libra
 use Rattle.ppq_words.specs.ppq_outside.declared.rack.Rack.{Ghosts as RackShows}
 use Rattle.ppq_words.specs.ppq_outside.declared.sink.Sink.{Ghosts as SinkShows}
 use Rattle.ppq_words.specs.Reading.{Reading}
-use Rattle.ppq_agenda.specs.ppq_engine.declared.end.End.{End}
-use Rattle.ppq_agenda.specs.ppq_engine.declared.end.End.TheVariants.{Done}
-use Rattle.ppq_agenda.specs.ppq_engine.declared.end.Ended.{Ended}
+use Rattle.ppq_jobs.specs.ppq_engine.declared.end.End.{End}
+use Rattle.ppq_jobs.specs.ppq_engine.declared.end.End.TheVariants.{Done}
+use Rattle.ppq_jobs.specs.ppq_engine.declared.end.Ended.{Ended}
 use Rattle.ppq_cli.specs.RunWords.{RunsWords}
 
 -- an outcome of `run_words` with this end, whatever its blocks

@@ -1,8 +1,8 @@
 //! Reads the arguments of the program.
 ghost use Rattle.std.specs.Prelude.{◌≡◌, ◌⊎◌, IfErr};
-ghost use Rattle.ppq_agenda.specs.ppq_engine.declared.end.End.TheVariants.{Usage, Memory};
+ghost use Rattle.ppq_jobs.specs.ppq_engine.declared.end.End.TheVariants.{Usage, Memory};
 
-use ppq_agenda::End;
+use ppq_jobs::End;
 use std::env;
 use std::env::Env;
 use std::io::ErrorKind;

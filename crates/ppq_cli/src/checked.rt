@@ -1,11 +1,11 @@
 //! A run over a device that may give back other bytes than it was given.
 ghost use Rattle.std.specs.Prelude.{◌≡◌, ◌<◌, ◌^◌};
-ghost use Rattle.ppq_agenda.specs.ppq_engine.declared.end.End.TheVariants.{Done};
+ghost use Rattle.ppq_jobs.specs.ppq_engine.declared.end.End.TheVariants.{Done};
 ghost use Rattle.ppq_cli.specs.RunWords.{OfScript, WritesAll, WritesPart};
 
 use crate::top_call::run_words;
-use ppq_agenda::Ended;
 use ppq_checked::{Checked, CheckedRack, UntrustedRack};
+use ppq_jobs::Ended;
 use ppq_words::{Gate, Host, Library, Sink};
 use std::alloc::Global;
 

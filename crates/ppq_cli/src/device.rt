@@ -1,17 +1,16 @@
 //! Makes the device of a run.
-ghost use Rattle.std.specs.Prelude.{◌≡◌, ◌≤◌, [], length, IfOk, IfErr};
+ghost use Rattle.std.specs.Prelude.{◌≡◌, [], length, IfOk, IfErr};
 ghost use Rattle.std.specs.List.{range_with_len};
 ghost use Rattle.ppq_words.specs.ppq_budget.Sizes.{AreInRange};
 ghost use Rattle.ppq_words.specs.ppq_outside.Made.{HasMade};
-ghost use Rattle.ppq_words.specs.Reading.{sizes_for};
 ghost use Rattle.ppq_cli.specs.Device.{AreMade, RackCounts, made_in, make_end};
 ghost use Rattle.ppq_cli.specs.DeviceFor.{IsDevice, LacksDevice};
 
 use crate::context::Context;
-use crate::new_device::NewDevice;
-use ppq_agenda::{End, Ended};
+use crate::plan::Plan;
+use ppq_jobs::{End, Ended};
 use ppq_record::record_laws;
-use ppq_words::{Gate, GivenSizes, Host, OutsideFault, Rack, Record, Slot};
+use ppq_words::{Gate, Host, OutsideFault, Rack, Record, Slot};
 use std::alloc::Global;
 
 /// An outcome that comes before a block was made.
@@ -64,37 +63,27 @@ fn end_of_making(fault: OutsideFault) -> End
     }
 }
 
-/// Makes the device of this name with blocks for records of a type, of the sizes that the arguments give, unless
-/// the budget is below its fixed part; the outcome then has that part in the unit of the budget. A record has at
-/// least 16 bytes, so a budget in bytes stays in its range. All blocks that were made come back.
+/// Makes the device of this name with the blocks of a plan, for records of a type, unless the budget is below the
+/// fixed part of a queue; the outcome then has the least budget of the plan. All blocks that were made come back.
 pub fn device_for<R: Record, H: Host, K: Rack, G: Gate>(
     context: &Context<H, G>,
-    given: &GivenSizes,
+    plan: &Plan,
     device: &str,
     rack: &mut K,
-) -> Result<NewDevice<K::Slot>, Ended<K::Slot>>
-    requires width { 16 ≤ R.WIDTH }
-    ensures made { IfOk result (λ made. IsDevice K.Rack K.Slot.shown R.WIDTH given.now device.now rack.old rack.new made.sizes made.blocks.items) }
-    ensures unmade { IfErr result (LacksDevice K.Rack K.Slot.shown R.WIDTH given.now device.now rack.old rack.new) }
-    ensures range { AreInRange (sizes_for R.WIDTH given.now) }
+) -> Result<Vec<K::Slot>, Ended<K::Slot>>
+    ensures made { IfOk result (λ blocks. IsDevice K.Rack K.Slot.shown R.WIDTH plan.now device.now rack.old rack.new blocks.items) }
+    ensures unmade { IfErr result (LacksDevice K.Rack K.Slot.shown plan.now device.now rack.old rack.new) }
+    ensures range { AreInRange plan.now.sizes }
 {
     record_laws::<R>();
-    let sizes = given.for_width(R::WIDTH as u64);
-    let need = sizes.fixed();
-    if sizes.memory() < need {
-        let need = given.unit().amount(need, R::WIDTH as u64);
+    let sizes = plan.sizes;
+    if sizes.memory() < sizes.fixed() {
+        let need = plan.need;
         return Err(without_blocks(context.alloc, End::BudgetTooSmall { need }));
     }
     let bytes = sizes.block() as usize * R::WIDTH;
-    match make_blocks(
-        context.rt,
-        context.alloc,
-        rack,
-        device,
-        sizes.blocks(),
-        bytes,
-    ) {
-        Ok(blocks) => Ok(NewDevice { sizes, blocks }),
+    match make_blocks(context.rt, context.alloc, rack, device, plan.blocks, bytes) {
+        Ok(blocks) => Ok(blocks),
         Err((blocks, fault)) => Err(Ended {
             end: end_of_making(fault),
             blocks,

@@ -10,7 +10,7 @@ use crate::context::Context;
 use crate::device::without_blocks;
 use crate::reading::{end_of_check, read_script};
 use crate::run::run_over;
-use ppq_agenda::Ended;
+use ppq_jobs::Ended;
 use ppq_record::{fields_laws, record_laws};
 use ppq_words::{
     Down, Fields, Gate, Host, Kind, Library, Order, Pair, Rack, RunArguments, Sink, Triple,

@@ -2,8 +2,8 @@
 ghost use Rattle.std.specs.Prelude.{◌≡◌};
 ghost use Rattle.ppq_cli.specs.Load.{load_end};
 
-use ppq_agenda::End;
 use ppq_files::WholeFault;
+use ppq_jobs::End;
 
 /// The longest script, in bytes.
 pub const LONGEST: u64 = 1_048_576;

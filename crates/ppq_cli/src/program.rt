@@ -1,6 +1,6 @@
 //! The program over any outside.
 ghost use Rattle.std.specs.Prelude.{◌≡◌, ◌≤◌, ◌<◌, ◌^◌, length, IsTrue};
-ghost use Rattle.ppq_agenda.specs.ppq_handler.Roster.{places_of};
+ghost use Rattle.ppq_jobs.specs.ppq_handler.Roster.{places_of};
 ghost use Rattle.ppq_cli.specs.Report.{report_of, TakesLine};
 ghost use Rattle.ppq_cli.specs.Status.{status_of, writes_nothing, IsReported};
 ghost use Rattle.ppq_cli.specs.AllWords.{AllWords};
@@ -9,7 +9,7 @@ ghost use Rattle.ppq_cli.specs.RunWords.{OfScript, WritesAll, WritesPart, IsTooL
 use crate::all::all_words;
 use crate::reports::report;
 use crate::statuses::status;
-use ppq_agenda::{End, Handler};
+use ppq_jobs::{End, Handler};
 use ppq_words::{Gate, Host, Library, Rack, Sink};
 use std::alloc::Global;
 
@@ -29,8 +29,8 @@ pub fn report_end<H: Host, E: Sink>(rt: &H, end: &End, errors: &mut E) -> u8
 ///
 /// All that [`all_words`] promises holds of an outcome, with its blocks, whose number is the status; the
 /// line that the sink for reports took is that of the same outcome. So status 0 says that the sink took
-/// the script's whole output, or the agenda's journal, and that no call of library, rack and sink failed;
-/// every other status, that the sink took a prefix of it, and 1, 2, 7 and 10 to 13, that it took nothing.
+/// the script's whole output, the agenda's journal, or the levels of the graph, and that no call of library, rack and
+/// sink failed; every other status, that the sink took a prefix of it, and 1, 2, 7 and 10 to 14, that it took nothing.
 pub fn run_and_report<H: Host, L: Library, K: Rack, O: Sink, E: Sink, G: Gate>(
     rt: &H,
     alloc: Global,

@@ -9,7 +9,7 @@ ghost use Rattle.ppq_cli.specs.Load.{CheckCounts, check_end};
 ghost use Rattle.ppq_cli.specs.Replies.{IsScript, IsRefused};
 ghost use Rattle.ppq_files.specs.Reading.{LibraryKeeps};
 
-use ppq_agenda::End;
+use ppq_jobs::End;
 use ppq_words::{CheckFault, Fields, Host, Library, Script, check_files, read};
 use std::alloc::Global;
 

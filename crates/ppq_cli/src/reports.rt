@@ -4,7 +4,7 @@ ghost use Rattle.ppq_words.specs.ppq_outside.Told.{HasOneCause, TakesAll, TakesP
 ghost use Rattle.ppq_cli.specs.Report.{report_of, changed_text};
 
 use itoa::Buffer;
-use ppq_agenda::End;
+use ppq_jobs::End;
 use ppq_words::{Failed, Host, Sink};
 
 /// Puts the line that reports an outcome; nothing for `Done`. `Failed` comes only where the sink's
@@ -36,6 +36,7 @@ pub fn report<H: Host, O: Sink>(rt: &H, end: &End, out: &mut O) -> Result<(), Fa
         End::NoScript => out.put(rt, b"ppq: no such script\n"),
         End::ScriptTooLong => out.put(rt, b"ppq: script too long\n"),
         End::BadAgenda => out.put(rt, b"ppq: bad agenda\n"),
+        End::BadEdge { at } => put_number(rt, b"ppq: edge ", *at, b" is bad\n", out),
     }
 }
 

@@ -1,7 +1,7 @@
 //! Executes a script over a device.
 ghost use Rattle.std.specs.Prelude.{◌≡◌, ◌≤◌, ℕ, List, Option, Some, IsTrue, map};
-ghost use Rattle.ppq_agenda.specs.ppq_engine.Output.{KeepsLengths};
-ghost use Rattle.ppq_agenda.specs.ppq_engine.Files.{IsReadInScript};
+ghost use Rattle.ppq_jobs.specs.ppq_engine.Output.{KeepsLengths};
+ghost use Rattle.ppq_jobs.specs.ppq_engine.Files.{IsReadInScript};
 ghost use Rattle.ppq_cli.specs.Outside.{OutsideKept};
 ghost use Rattle.ppq_cli.specs.RunOver.{RunWrites, RunTransfers, RunEnds};
 ghost use Rattle.ppq_cli.specs.RunWords.{device_named, blocks_given};
@@ -10,7 +10,8 @@ ghost use Rattle.ppq_words.specs.Reading.{as_reading, sizes_at};
 
 use crate::context::Context;
 use crate::device::device_for;
-use ppq_agenda::{Ended, run_script};
+use crate::plan::plan_for;
+use ppq_jobs::{Ended, run_script};
 use ppq_words::{Fields, Gate, Host, Library, Rack, RunArguments, Script, Sink};
 
 /// Makes the device, with blocks for the script's records, and executes a checked script over it, unless the
@@ -40,13 +41,14 @@ where
     ensures asks { RepliesOnly (L.replied library.old) (L.replied library.new) (IsReadInScript script.now) }
     ensures ends { RunEnds R.Fields (L.told library.old) (L.replied library.new) (as_reading arguments.now) script.now result.end }
 {
-    match device_for::<R, H, K, G>(context, &arguments.given, arguments.device, rack) {
-        Ok(made) => run_script(
+    let plan = plan_for::<R>(&arguments.given);
+    match device_for::<R, H, K, G>(context, &plan, arguments.device, rack) {
+        Ok(blocks) => run_script(
             context.rt,
             context.alloc,
             script,
-            made.sizes,
-            made.blocks,
+            plan.sizes,
+            blocks,
             library,
             out,
             context.gate,

@@ -3,14 +3,16 @@ ghost use Rattle.std.specs.Prelude.{◌≤◌, ◌<◌, ◌^◌, length};
 ghost use Rattle.ppq_files.specs.Lengths.{IsRecordLength};
 ghost use Rattle.ppq_files.specs.Reading.{HasLength};
 ghost use Rattle.ppq_words.specs.SimReading.{as_sim_reading};
-ghost use Rattle.ppq_agenda.specs.ppq_handler.Roster.{places_of};
+ghost use Rattle.ppq_jobs.specs.ppq_handler.Roster.{places_of};
 ghost use Rattle.ppq_cli.specs.SimOver.{SimsOver};
 ghost use Rattle.ppq_cli.specs.SimWords.{SimsWords};
 
 use crate::context::Context;
 use crate::device::{device_for, without_blocks};
-use crate::lengths::{agenda_length, end_of_length};
-use ppq_agenda::{Agenda, End, Ended, Handler, run_agenda};
+use crate::lengths::end_of_length;
+use crate::plan::plan_for;
+use ppq_files::record_length;
+use ppq_jobs::{Agenda, End, Ended, Handler, run_agenda};
 use ppq_words::{Gate, Host, Library, Memory, Rack, SimArguments, Sink, Triple, read_sim_words};
 
 // Makes the device, with blocks for events, and simulates an agenda of so many bytes over it, unless the budget
@@ -39,13 +41,14 @@ where
         until: arguments.until,
         events: arguments.events,
     };
-    match device_for::<Triple, H, K, G>(context, &arguments.given, arguments.device, rack) {
-        Ok(made) => run_agenda(
+    let plan = plan_for::<Triple>(&arguments.given);
+    match device_for::<Triple, H, K, G>(context, &plan, arguments.device, rack) {
+        Ok(blocks) => run_agenda(
             context.rt,
             context.alloc,
             &agenda,
-            made.sizes,
-            made.blocks,
+            plan.sizes,
+            blocks,
             roster,
             library,
             out,
@@ -102,8 +105,8 @@ where
         rt: context.rt,
         alloc: context.alloc,
     };
-    match agenda_length(&files, library, arguments.agenda) {
+    match record_length::<Triple, H, L>(&files, library, arguments.agenda) {
         Ok(bytes) => sim_over(context, &arguments, bytes, roster, library, rack, out),
-        Err(fault) => without_blocks(context.alloc, end_of_length(fault)),
+        Err(fault) => without_blocks(context.alloc, end_of_length(fault, End::BadAgenda)),
     }
 }

@@ -2,9 +2,9 @@
 ghost use Rattle.std.specs.Prelude.{◌≡◌};
 ghost use Rattle.ppq_cli.specs.Status.{status_of};
 
-use ppq_agenda::End;
+use ppq_jobs::End;
 
-/// The number of an outcome, with which the program ends: 0 for `Done`, else 1 to 13 in the order in
+/// The number of an outcome, with which the program ends: 0 for `Done`, else 1 to 14 in the order in
 /// which `End` lists them.
 pub fn status(end: &End) -> u8
     ensures { result ≡ status_of end.now }
@@ -24,5 +24,6 @@ pub fn status(end: &End) -> u8
         End::NoScript => 11,
         End::ScriptTooLong => 12,
         End::BadAgenda => 13,
+        End::BadEdge { .. } => 14,
     }
 }

@@ -10,7 +10,7 @@ pub enum Subcommand {
     Run,
     /// Simulates the events of an agenda.
     Sim,
-    /// Sweeps over a graph. Planned, not implemented.
+    /// Sweeps over a graph.
     Sweep,
 }
 

@@ -1,13 +1,13 @@
 //! The top call of a script.
 ghost use Rattle.std.specs.Prelude.{◌≡◌, ◌≤◌, ◌<◌, ◌⊎◌, ◌^◌, ℕ, [], None, false, IfSome, map, All};
-ghost use Rattle.ppq_agenda.specs.ppq_engine.ppq_array.Kept.{HasFailed};
+ghost use Rattle.ppq_jobs.specs.ppq_engine.ppq_array.Kept.{HasFailed};
 ghost use Rattle.ppq_words.specs.ppq_outside.Told.{Remembers};
 ghost use Rattle.ppq_words.specs.ppq_outside.Made.{HasMadeJust};
 ghost use Rattle.ppq_words.specs.Reading.{texts_of};
 ghost use Rattle.ppq_words.specs.Strays.{may_run};
-ghost use Rattle.ppq_agenda.specs.ppq_engine.Ends.{NoFault};
-ghost use Rattle.ppq_agenda.specs.ppq_engine.declared.end.End.TheVariants as ends;
-ghost use Rattle.ppq_agenda.specs.ppq_engine.declared.end.End.TheVariants.{Done, Usage, ReadFault, WriteFault, DeviceFault, NoFreeBlock, NoDevice};
+ghost use Rattle.ppq_jobs.specs.ppq_engine.Ends.{NoFault};
+ghost use Rattle.ppq_jobs.specs.ppq_engine.declared.end.End.TheVariants as ends;
+ghost use Rattle.ppq_jobs.specs.ppq_engine.declared.end.End.TheVariants.{Done, Usage, ReadFault, WriteFault, DeviceFault, NoFreeBlock, NoDevice};
 ghost use Rattle.ppq_cli.specs.Device.{AreBlocks};
 ghost use Rattle.ppq_cli.specs.Outside.{MayWrite};
 ghost use Rattle.ppq_cli.specs.Replies.{RefusalIsRight, AsksAreRight};
@@ -18,8 +18,8 @@ use crate::context::Context;
 use crate::device::without_blocks;
 use crate::kinds::run_bytes;
 use crate::load::{LONGEST, end_of};
-use ppq_agenda::{End, Ended};
 use ppq_files::read_whole;
+use ppq_jobs::{End, Ended};
 use ppq_words::{Gate, Host, Library, Memory, Rack, Sink, read_words};
 use std::alloc::Global;
 

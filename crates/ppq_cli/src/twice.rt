@@ -2,11 +2,11 @@
 ghost use Rattle.std.specs.Prelude.{◌≡◌, ◌<◌, ◌^◌, IfSome};
 ghost use Rattle.ppq_cli.specs.RunWords.{reading};
 ghost use Rattle.ppq_cli.specs.Twice.{EndInTurn, RunsTo, WriteTheSame, NameOneScript};
-ghost use Rattle.ppq_agenda.specs.ppq_engine.declared.end.End.TheVariants.{Done};
+ghost use Rattle.ppq_jobs.specs.ppq_engine.declared.end.End.TheVariants.{Done};
 
 use crate::context::Context;
 use crate::whole::run_whole;
-use ppq_agenda::End;
+use ppq_jobs::End;
 use ppq_words::{Gate, Host, Library, Rack, Sink};
 use std::alloc::Global;
 

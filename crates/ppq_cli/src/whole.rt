@@ -4,7 +4,7 @@ ghost use Rattle.ppq_cli.specs.RunWords.{RunsWords};
 
 use crate::context::Context;
 use crate::top_call::run_words;
-use ppq_agenda::Ended;
+use ppq_jobs::Ended;
 use ppq_words::{Gate, Host, Library, Rack, Sink};
 
 /// Calls `run_words`, and says what it promises in one clause.

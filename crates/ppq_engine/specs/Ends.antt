@@ -4,10 +4,11 @@ use Rattle.ppq_script.specs.ppq_outside.Shown.{Shown}
 use Rattle.ppq_load.specs.ppq_budget.Sizes.{Numbers, fixed_of}
 use Rattle.ppq_load.specs.ppq_array.Kept.{HasFailed}
 use Rattle.ppq_engine.specs.declared.end.End.{End}
-use Rattle.ppq_engine.specs.declared.end.End.TheVariants.{Done, BadLine, Usage, ReadFault, WriteFault, DeviceFault, NoFreeBlock, BudgetTooSmall, Memory, FileChanged, NoDevice, NoScript, ScriptTooLong, BadAgenda}
+use Rattle.ppq_engine.specs.declared.end.End.TheVariants.{Done, BadLine, Usage, ReadFault, WriteFault, DeviceFault, NoFreeBlock, BudgetTooSmall, Memory, FileChanged, NoDevice, NoScript, ScriptTooLong, BadAgenda, BadEdge}
 
 -- What ends have in common: all was done; the arguments, the script or the budget were refused, before a block was made; the device could not be
--- made; the library failed; the sink or a block failed; a file had become shorter; no block was free; or it gave up, since memory was wanting
+-- made; the library failed; the sink or a block failed; a file had become shorter, or a record of it was bad; no block was free; or it gave up, since
+-- memory was wanting
 pub data Class : Type 0 where
   Finished : Class
   Refused : Class
@@ -15,6 +16,7 @@ pub data Class : Type 0 where
   Unread : Class
   Broken : Class
   Shrunk : Class
+  Spoiled : Class
   Full : Class
   GaveUp : Class
 
@@ -34,6 +36,7 @@ class_of NoDevice = Unmade
 class_of NoScript = Refused
 class_of ScriptTooLong = Refused
 class_of BadAgenda = Refused
+class_of (BadEdge at) = Spoiled
 
 -- a class of ends with which the commands were begun: all was done, sink, block or library failed, no block was free, or a file had changed
 abbrev pub HasBegun : Class → Type 0
@@ -43,6 +46,7 @@ HasBegun Unmade = ⊥
 HasBegun Unread = ⊤
 HasBegun Broken = ⊤
 HasBegun Shrunk = ⊤
+HasBegun Spoiled = ⊥
 HasBegun Full = ⊤
 HasBegun GaveUp = ⊥
 
@@ -54,6 +58,7 @@ HasSurelyRun Unmade = ⊥
 HasSurelyRun Unread = ⊥
 HasSurelyRun Broken = ⊤
 HasSurelyRun Shrunk = ⊥
+HasSurelyRun Spoiled = ⊥
 HasSurelyRun Full = ⊤
 HasSurelyRun GaveUp = ⊥
 
@@ -65,6 +70,7 @@ IsRefusal Unmade = ⊥
 IsRefusal Unread = ⊥
 IsRefusal Broken = ⊥
 IsRefusal Shrunk = ⊥
+IsRefusal Spoiled = ⊥
 IsRefusal Full = ⊥
 IsRefusal GaveUp = ⊥
 
@@ -76,6 +82,7 @@ IsFaultless Unmade = ⊥
 IsFaultless Unread = ⊥
 IsFaultless Broken = ⊥
 IsFaultless Shrunk = ⊤
+IsFaultless Spoiled = ⊤
 IsFaultless Full = ⊤
 IsFaultless GaveUp = ⊤
 
@@ -87,6 +94,7 @@ CompletesBy told Unmade = ⊥
 CompletesBy told Unread = ⊥
 CompletesBy told Broken = ⊥
 CompletesBy told Shrunk = told ≡ None
+CompletesBy told Spoiled = ⊥
 CompletesBy told Full = ⊥
 CompletesBy told GaveUp = ⊤
 
@@ -98,6 +106,7 @@ IfFile Unmade P = ⊤
 IfFile Unread P = P
 IfFile Broken P = ⊤
 IfFile Shrunk P = P
+IfFile Spoiled P = ⊤
 IfFile Full P = ⊤
 IfFile GaveUp P = ⊤
 

@@ -27,12 +27,15 @@ pub enum End {
     FileChanged { line: u32, said: u64, got: u64 },
     /// The device could not be made.
     NoDevice,
-    /// The library has no script, or no agenda, of that name.
+    /// The library has no script, no agenda, or no file of edges, of that name.
     NoScript,
     /// The script is longer than 1,048,576 bytes.
     ScriptTooLong,
     /// The agenda is not whole records of 24 bytes, or has more than 4,294,967,296 of them.
     BadAgenda,
+    /// The record with this number, from 1 on, is the first of the file that is no edge; or with 0, the file is not
+    /// whole records of 16 bytes, or has more than 4,294,967,296 of them.
+    BadEdge { at: u64 },
 }
 
 /// How an execution ended, and the blocks that were made for it.

@@ -24,6 +24,8 @@ pub use answer::Answer;
 pub use drained::Drained;
 pub use end::{End, Ended};
 pub use laws::session_laws;
-pub use ppq_load::{LoadFault, OpenFault, load_file};
+pub use ppq_load::{
+    BeginFault, Context, FileFault, LoadFault, Maker, OpenFault, Piece, Pieces, Session, load_file,
+};
 pub use ppq_script::{Form, Head, Library, Memory, Script, Sink, check_files, read, read_head};
 pub use run::run_script;

@@ -14,7 +14,7 @@ use Rattle.ppq_session.specs.Dealing.{HasEnded}
 use Rattle.ppq_load.specs.Loading.{SessionHolding, InSession, AreRecordsAt, HasGiven, told_bytes}
 use Rattle.ppq_session.specs.ppq_outside.Told.{Reply}
 use Rattle.ppq_files.specs.Pieces.{PieceState, IsNextPiece}
-use Rattle.ppq_load.proofs.Pieces.{whole-piece}
+use Rattle.ppq_load.proofs.PieceRecords.{whole-piece}
 use Rattle.ppq_session.proofs.Sessions.{session-rest}
 
 module _ {R : Type 0} (record_of : List ℕ → R) (width : ℕ) where

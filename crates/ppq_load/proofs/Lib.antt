@@ -6,7 +6,7 @@ pub mod FileRecords
 pub mod Generated
 pub mod Loadings
 pub mod Parts
-pub mod Pieces
+pub mod PieceRecords
 pub mod Reading
 pub mod Refusals
 pub mod Results

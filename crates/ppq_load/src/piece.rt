@@ -5,10 +5,10 @@ use ppq_record::{Record, record_laws};
 use ppq_session::Maker;
 use std::marker::Model;
 
-// The bytes of a piece of a file, as a maker of the records that stand in them, one behind the other. Of bytes that
-// are fewer than a record has no record is made.
-//
-// Contracts see the bytes that are left.
+/// The bytes of a piece of a file, as a maker of the records that stand in them, one behind the other. Of bytes that
+/// are fewer than a record has no record is made.
+///
+/// Contracts see the bytes that are left.
 #[derive(Drop)]
 pub struct Piece<'a> {
     // The bytes that are left.
@@ -24,7 +24,7 @@ impl<'a> Model for Piece<'a> {
 }
 
 impl<'a> Piece<'a> {
-    // A maker of all records in these bytes, in their order.
+    /// A maker of all records in these bytes, in their order.
     pub fn new(bytes: &'a [u8]) -> Piece<'a>
         ensures { result ≡ bytes.now }
     {

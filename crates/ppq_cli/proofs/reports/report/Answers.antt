@@ -32,3 +32,9 @@ returns-in-BadAgenda-clause-all g c = rw c.in-BadAgenda.is c.put-in-BadAgenda.en
 
 pub returns-in-BadAgenda-clause-part : goal.returns-in-BadAgenda-clause-part
 returns-in-BadAgenda-clause-part g c = rw c.in-BadAgenda.is c.put-in-BadAgenda.ensures.part
+
+pub returns-in-BadEdge-clause-all : goal.returns-in-BadEdge-clause-all
+returns-in-BadEdge-clause-all g c = rw c.in-BadEdge.is c.put_number-in-BadEdge.ensures.all
+
+pub returns-in-BadEdge-clause-part : goal.returns-in-BadEdge-clause-part
+returns-in-BadEdge-clause-part g c = rw c.in-BadEdge.is c.put_number-in-BadEdge.ensures.part

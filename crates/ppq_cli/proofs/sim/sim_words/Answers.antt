@@ -1,9 +1,11 @@
 -- The arguments were not read, or have no reading; or the length of the agenda was not found, or the agenda was simulated.
 use Rattle.std.proofs.Common.{◌≡◌, ◌∙◌, Some, sym, ap}
 use Rattle.std.specs.Prelude.{option_map}
+use Rattle.ppq_files.proofs.Asked.{asks_on}
 use Rattle.ppq_words.specs.SimReading.{as_sim_reading}
 use Rattle.ppq_cli.specs.SimWords.{sim_reading}
-use Rattle.ppq_cli.proofs.SimWords.{found_length, found_sims, honest_before, memory_sims, unfound_sims, usage_sims}
+use Rattle.ppq_cli.proofs.FileLengths.{found_length, honest_before}
+use Rattle.ppq_cli.proofs.SimWords.{found_sims, memory_sims, unfound_sims, usage_sims}
 use Rattle.ppq_cli.proofs.sim.sim_words.Goals as goal
 
 pub returns-in-Err : goal.returns-in-Err
@@ -18,24 +20,24 @@ returns-in_default g c =
     usage_sims g.L.Library g.K.Rack g.O.Sink g.K.Slot.Slot.shown c.args.words.now _ c.args.library.now c.args.rack.now c.args.out.now ended.result ended.ensures.end ended.ensures.none
     (sym c.in-Ok.ensures.reading ∙ ap (option_map as_sim_reading) c.in_default.is)
 
-pub returns-in-Ok-agenda_length : goal.returns-in-Ok-agenda_length
-returns-in-Ok-agenda_length g c =
+pub returns-in-Ok-record_length : goal.returns-in-Ok-record_length
+returns-in-Ok-record_length g c =
     let r = as_sim_reading c.in-Some.arguments in
     let named : sim_reading c.args.words.now ≡ Some r = sym c.in-Ok.ensures.reading ∙ ap (option_map as_sim_reading) c.in-Some.is in
-    let found = c.in-Ok-agenda_length.ensures.found in
-    let kept = c.agenda_length.ensures.library in
-    let honest = honest_before g.L.Library c.args.library.now c.agenda_length.new.library kept.told (g.met.L.Library.truth c.agenda_length.new.library) in
-    found_sims g.L.Library g.K.Rack g.O.Sink g.K.Slot.Slot.shown c.args.words.now _ r named c.sim_over.result c.args.library.now c.agenda_length.new.library c.sim_over.new.library c.args.rack.now c.sim_over.new.rack c.args.out.now
-    c.sim_over.new.out c.in-Ok-agenda_length.bytes honest found.0 found.1 (found_length _ _ r.agenda c.in-Ok-agenda_length.bytes honest found.0) kept c.in-Ok-agenda_length.ensures.counts.stays c.requires.library c.requires.rack
+    let found = c.in-Ok-record_length.ensures.found in
+    let kept = asks_on g.L.Library.told g.L.Library.replied r.agenda c.record_length.ensures.library in
+    let honest = honest_before g.L.Library c.args.library.now c.record_length.new.library kept.told (g.met.L.Library.truth c.record_length.new.library) in
+    found_sims g.L.Library g.K.Rack g.O.Sink g.K.Slot.Slot.shown c.args.words.now _ r named c.sim_over.result c.args.library.now c.record_length.new.library c.sim_over.new.library c.args.rack.now c.sim_over.new.rack c.args.out.now
+    c.sim_over.new.out c.in-Ok-record_length.bytes honest found.0 found.1 (found_length _ _ r.agenda c.in-Ok-record_length.bytes honest found.0) kept c.in-Ok-record_length.ensures.counts.stays c.requires.library c.requires.rack
     c.requires.sink c.sim_over.ensures
 
-pub returns-in-Err-agenda_length : goal.returns-in-Err-agenda_length
-returns-in-Err-agenda_length g c =
+pub returns-in-Err-record_length : goal.returns-in-Err-record_length
+returns-in-Err-record_length g c =
     let r = as_sim_reading c.in-Some.arguments in
     let named : sim_reading c.args.words.now ≡ Some r = sym c.in-Ok.ensures.reading ∙ ap (option_map as_sim_reading) c.in-Some.is in
-    let kept = c.agenda_length.ensures.library in
-    let counts = c.in-Err-agenda_length.ensures.counts in
-    let ended = c.without_blocks-in-Err-agenda_length in
-    unfound_sims g.L.Library g.K.Rack g.O.Sink g.K.Slot.Slot.shown c.args.words.now _ r named ended.result c.args.library.now c.agenda_length.new.library c.args.rack.now c.args.out.now c.in-Err-agenda_length.fault
-    (honest_before g.L.Library c.args.library.now c.agenda_length.new.library kept.told (g.met.L.Library.truth c.agenda_length.new.library)) c.in-Err-agenda_length.ensures.refused kept counts.later counts.cause
+    let kept = asks_on g.L.Library.told g.L.Library.replied r.agenda c.record_length.ensures.library in
+    let counts = c.in-Err-record_length.ensures.counts in
+    let ended = c.without_blocks-in-Err-record_length in
+    unfound_sims g.L.Library g.K.Rack g.O.Sink g.K.Slot.Slot.shown c.args.words.now _ r named ended.result c.args.library.now c.record_length.new.library c.args.rack.now c.args.out.now c.in-Err-record_length.fault
+    (honest_before g.L.Library c.args.library.now c.record_length.new.library kept.told (g.met.L.Library.truth c.record_length.new.library)) c.in-Err-record_length.ensures.refused kept counts.later counts.cause
     c.requires.library c.requires.rack c.requires.sink (ended.ensures.end ∙ c.end_of_length.ensures) ended.ensures.none

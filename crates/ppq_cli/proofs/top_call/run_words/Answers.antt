@@ -5,7 +5,7 @@ use Rattle.ppq_words.proofs.ppq_outside.Replies.{no_replies}
 use Rattle.ppq_files.specs.Whole.{IsLoadedAs}
 use Rattle.ppq_files.specs.declared.whole.WholeFault.TheVariants.{Memory}
 use Rattle.ppq_cli.specs.Replies.{AsksAreRight, RefusalIsRight}
-use Rattle.ppq_agenda.proofs.ppq_engine.Running.{takes_none}
+use Rattle.ppq_jobs.proofs.ppq_engine.Running.{takes_none}
 use Rattle.ppq_cli.specs.Device.{IsSurelyRun}
 use Rattle.ppq_cli.specs.RunWords.{reading, WritesPart}
 use Rattle.ppq_cli.proofs.Blocks.{made_nothing_named}

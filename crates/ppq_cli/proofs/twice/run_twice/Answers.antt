@@ -1,6 +1,6 @@
 use Rattle.std.proofs.Common.{◌≡◌, ℕ, List, Option, IfSome, inl, inr, refl, subst}
-use Rattle.ppq_agenda.specs.ppq_engine.declared.end.End.{End}
-use Rattle.ppq_agenda.specs.ppq_engine.declared.end.End.TheVariants.{Done}
+use Rattle.ppq_jobs.specs.ppq_engine.declared.end.End.{End}
+use Rattle.ppq_jobs.specs.ppq_engine.declared.end.End.TheVariants.{Done}
 use Rattle.ppq_cli.specs.RunWords.{reading, OfFile, WritesAll, refusal_of, IsAnswer}
 use Rattle.ppq_cli.proofs.Same.{write_the_same}
 use Rattle.ppq_cli.proofs.twice.run_twice.Goals as goal

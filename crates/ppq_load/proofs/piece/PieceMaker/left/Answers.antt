@@ -1,6 +1,6 @@
 use Rattle.std.proofs.Common.{◌∙◌, ◌/◌, length, sym, ap}
 use Rattle.ppq_load.specs.Given.{records_of}
-use Rattle.ppq_load.proofs.Pieces.{length-piece}
+use Rattle.ppq_load.proofs.PieceRecords.{length-piece}
 use Rattle.ppq_load.proofs.piece.PieceMaker.left.Goals as goal
 
 pub returns : goal.returns

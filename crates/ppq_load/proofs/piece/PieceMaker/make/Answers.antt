@@ -1,7 +1,7 @@
 use Rattle.std.proofs.Common.{◌≡◌, ◌∙◌, ◌-◌, ◌<◌, ◌≤◌, List, ◌∷◌, length, take, drop, sym, ap, ap₂, arith, length-drop}
 use Rattle.std.proofs.lemmas.List.{take_all}
 use Rattle.ppq_load.specs.Given.{records_of}
-use Rattle.ppq_load.proofs.Pieces.{piece-first, piece-none}
+use Rattle.ppq_load.proofs.PieceRecords.{piece-first, piece-none}
 use Rattle.ppq_load.proofs.piece.PieceMaker.make.Goals as goal
 
 pub returns-then-bytes-width-clause-end : goal.returns-then-bytes-width-clause-end

@@ -1,7 +1,7 @@
 use Rattle.std.proofs.Common.{◌≡◌, ℕ, ◌∙◌, ◌+◌, ◌-◌, ◌*◌, ◌/◌, length, take, drop, min, ap, ap₂, arith}
 use Rattle.std.proofs.Math.Nat.{add-mul}
 use Rattle.ppq_load.specs.Given.{records_of}
-use Rattle.ppq_load.proofs.Pieces.{piece-part}
+use Rattle.ppq_load.proofs.PieceRecords.{piece-part}
 use Rattle.ppq_load.proofs.piece.PieceMaker.part.Goals as goal
 
 pub returns : goal.returns
