@@ -15,3 +15,5 @@ mod model;
 mod random;
 #[cfg(test)]
 mod rows;
+#[cfg(test)]
+mod stress;

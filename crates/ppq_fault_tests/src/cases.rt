@@ -1,4 +1,4 @@
-//! The scripts of these tests, and an agenda.
+//! The scripts of these tests, an agenda and a graph.
 
 use std::alloc::Global;
 use std::process::Abort;
@@ -88,6 +88,18 @@ pub const AGENDA: Case = Case {
     falling: 0,
     lines: b"",
     output: b"1 1 3 3\n1 2 8 0\n2 0 5 5\n2 2 2 8\n2 3 4 4\n2 5 9 0\n3 3 1 5\n3 4 2 2\n3 4 4 4\n3 6 4 4\n3 8 6 0\n4 4 1 1\n4 5 1 9\n4 5 3 1\n4 7 4 4\n4 9 3 3\n4 12 0 1\n4 12 7 lost\n5 5 0 3\n5 6 1 5\n5 8 3 6\n5 10 3 3\n6 7 1 1\n6 9 1 4\n6 11 2 0\n7 8 0 3\n7 10 1 1\n7 12 1 lost\n8 11 0 2\n8 13 1 1\nend empty count 30\n",
+    tops: 0,
+};
+
+/// The sweep of a graph `g` of ten nodes, more of whose edges and notes wait than the heaps hold. What it writes was computed
+/// in Python.
+pub const GRAPH: Case = Case {
+    words: "sweep g --device d --blocks 400 --workers 2 --block 2 --heap 1 --memory 744 --nodes 10",
+    blocks: 400,
+    block: 32,
+    falling: 0,
+    lines: b"",
+    output: b"0 0\n1 0\n2 0\n3 1\n4 2\n5 3\n6 4\n7 0\n8 3\n9 5\n",
     tops: 0,
 };
 

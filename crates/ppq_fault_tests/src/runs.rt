@@ -1,4 +1,4 @@
-//! A run of a script or an agenda over memory, of which one call fails.
+//! A run of a script, an agenda or a graph over memory, of which one call fails.
 ghost use Rattle.std.specs.Prelude.{◌≡◌};
 
 use crate::call::{Call, Faults};
@@ -22,15 +22,35 @@ const TAKEN: usize = 3;
 const TWO: &[u8] = b"\0\0\0\0\0\0\0\x05\0\0\0\0\0\0\0\x01\0\0\0\0\0\0\0\x03\0\0\0\0\0\0\0\x09";
 
 // The events of an agenda: time, target and word.
-const EVENTS: [[u64; 3]; 8] = [
-    [1, 2, 8],
-    [1, 1, 3],
-    [2, 0, 5],
-    [2, 5, 9],
-    [3, 4, 2],
-    [3, 8, 6],
-    [4, 12, 0],
-    [4, 12, 7],
+const EVENTS: &[&[u64]] = &[
+    &[1, 2, 8],
+    &[1, 1, 3],
+    &[2, 0, 5],
+    &[2, 5, 9],
+    &[3, 4, 2],
+    &[3, 8, 6],
+    &[4, 12, 0],
+    &[4, 12, 7],
+];
+
+// The edges of a graph.
+const EDGES: &[&[u64]] = &[
+    &[3, 4],
+    &[1, 6],
+    &[0, 6],
+    &[0, 3],
+    &[0, 4],
+    &[2, 4],
+    &[4, 5],
+    &[1, 9],
+    &[5, 6],
+    &[2, 3],
+    &[1, 8],
+    &[4, 9],
+    &[4, 8],
+    &[3, 6],
+    &[6, 9],
+    &[4, 6],
 ];
 
 /// A roster as the program has it.
@@ -51,11 +71,11 @@ fn roster_of(rt: &impl Abort, alloc: Global) -> Roster {
     roster
 }
 
-// The bytes of the agenda.
-fn agenda_of(rt: &impl Abort, alloc: Global) -> Vec<u8> {
+// The bytes of a record file.
+fn bytes_of(rt: &impl Abort, alloc: Global, records: &[&[u64]]) -> Vec<u8> {
     let mut bytes = Vec::new(alloc);
-    for event in EVENTS {
-        for number in event {
+    for record in records {
+        for number in *record {
             let put = bytes.extend_from_slice(&number.to_be_bytes());
             put.expect(rt, "memory");
         }
@@ -73,15 +93,17 @@ pub fn words_in(rt: &impl Abort, alloc: Global, line: &str) -> Vec<String> {
     words
 }
 
-/// A library with the script `s`, the file `f` of two records and the agenda `e`.
+/// A library with the script `s`, the file `f` of two records, the agenda `e` and the graph `g`.
 pub fn library_of(rt: &impl Abort, alloc: Global, script: &[u8], call: Call) -> MemLibrary
     ensures { ⟦<MemLibrary as Library>⟧.faults result ≡ 0 }
 {
     let mut library = MemLibrary::new(alloc);
     library.add(alloc, "s", script).expect(rt, "memory");
     library.add(alloc, "f", TWO).expect(rt, "memory");
-    let events = agenda_of(rt, alloc);
+    let events = bytes_of(rt, alloc, EVENTS);
     library.add(alloc, "e", &events).expect(rt, "memory");
+    let edges = bytes_of(rt, alloc, EDGES);
+    library.add(alloc, "g", &edges).expect(rt, "memory");
     if let Call::Library { call } = call {
         library.fail_call(call).expect(rt, "memory");
     }
@@ -147,7 +169,7 @@ pub fn ran_of<S: Slot>(
     }
 }
 
-/// Runs the script or the agenda of a case, of which a call fails.
+/// Runs the script, the agenda or the graph of a case, of which a call fails.
 pub fn run<H: Host + Abort>(
     rt: &H,
     alloc: Global,

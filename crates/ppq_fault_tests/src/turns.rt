@@ -1,8 +1,8 @@
-//! Each call of the outside fails in turn, a run each: 15 calls of the library, 9 puts and some 200 calls of blocks in
+//! Each call of the outside fails in turn, a run each: 20 calls of the library, 10 puts and some 200 calls of blocks in
 //! all. Passes go on side by side, so that what they do to which block may differ a little from run to run.
 
 use crate::call::{Call, Faults};
-use crate::cases::{AGENDA, CASES, Case, EARLY, Text, text_of};
+use crate::cases::{AGENDA, CASES, Case, EARLY, GRAPH, Text, text_of};
 use crate::runs::{Ran, are_all, are_read_rarely, calls_of, faults_of, run};
 use ppq_cli::End;
 use ppq_outside::{Host, Slot};
@@ -178,22 +178,29 @@ where
     }
 }
 
-// Lets each call of the outside fail in turn, for the agenda. Its length is asked for, and then its eight events are read by
-// four; all it writes is put at once.
-fn each_fails_of_agenda<H: Host + Abort>(rt: &H, alloc: Global)
+// Lets each call of the outside fail in turn, for an agenda or a graph: so many calls of the library. All it writes is put
+// at once.
+fn each_fails_of_file<H: Host + Abort>(rt: &H, alloc: Global, case: &Case, calls: u64)
 where
     H::Dir: Send,
 {
-    let blocks = each_block(rt, alloc, &AGENDA);
+    let blocks = each_block(rt, alloc, case);
     assert!(rt; blocks.reached > 0);
-    let library = each_of_library(rt, alloc, &AGENDA);
-    let puts = each_put(rt, alloc, &AGENDA);
-    assert_eq!(rt; (library, puts), (3, 1));
+    let library = each_of_library(rt, alloc, case);
+    let puts = each_put(rt, alloc, case);
+    assert_eq!(rt; (library, puts), (calls, 1));
 }
 
 #[test]
 fn each_call_that_fails_of_an_agenda_has_its_end(rt: HostRuntime) {
-    each_fails_of_agenda(&rt, rt.alloc());
+    // its length is asked for, and then its eight events are read by four
+    each_fails_of_file(&rt, rt.alloc(), &AGENDA, 3);
+}
+
+#[test]
+fn each_call_that_fails_of_a_graph_has_its_end(rt: HostRuntime) {
+    // the same with sixteen edges
+    each_fails_of_file(&rt, rt.alloc(), &GRAPH, 5);
 }
 
 #[test]

@@ -16,4 +16,6 @@ mod scripts;
 #[cfg(test)]
 mod sim;
 #[cfg(test)]
+mod sweeps;
+#[cfg(test)]
 mod transfers;

@@ -1,9 +1,10 @@
 //! Whole agendas over memory, with the roster of the program: what they write, and how they end.
-use crate::memory::{sink_in, words_in};
+use crate::memory::{ends, sink_in, words_in};
 use ppq_cli::{
-    CountHandler, ForkHandler, Handler, MortalHandler, OpenGate, RelayHandler, all_words, status,
+    CountHandler, End, ForkHandler, Handler, MortalHandler, OpenGate, RelayHandler, all_words,
+    status,
 };
-use ppq_outside::{Host, MemLibrary, MemRack};
+use ppq_outside::{Host, Library, MemLibrary, MemRack};
 use std::alloc::Global;
 use std::process::Abort;
 
@@ -184,5 +185,46 @@ fn the_journal_is_the_same_for_every_number_of_workers(rt: HostRuntime) {
         );
         let line = line.expect(&rt, "memory");
         does(&rt, alloc, line.as_str(), &bytes, 0, MANY_JOURNAL);
+    }
+}
+
+// Asserts how an agenda ends of which reads give only so many bytes: it writes nothing, and all blocks come back.
+fn is_cut<H: Host + Abort>(rt: &H, alloc: Global, bytes: &[u8], cut: u64)
+where
+    H::Dir: Send,
+{
+    let line = format!(in alloc; "sim a {SIZES} --until 6 --events 1000");
+    let line = line.expect(rt, "memory");
+    let mut library = MemLibrary::new(alloc);
+    library.add(alloc, "a", bytes).expect(rt, "memory");
+    library.shrink("a", cut);
+    let changed = End::FileChanged {
+        line: 0,
+        said: bytes.len() as u64,
+        got: cut,
+    };
+    let (mut rack, mut sink) = (MemRack::new(), sink_in(rt, alloc));
+    let blocks = ends(
+        rt,
+        alloc,
+        line.as_str(),
+        &mut library,
+        &mut rack,
+        &mut sink,
+        changed,
+        b"",
+    );
+    assert_eq!(rt; blocks.len(), 200);
+    assert_eq!(rt; library.faults(), 0);
+}
+
+#[test]
+fn an_agenda_that_is_shrunk_while_it_is_read_has_changed(rt: HostRuntime) {
+    let alloc = rt.alloc();
+    let bytes = bytes_of(&rt, alloc, MANY);
+    assert_eq!(rt; bytes.len(), 216);
+    // four events, 96 bytes, are read at once
+    for cut in [0, 1, 24, 95, 96, 97, 192, 215] {
+        is_cut(&rt, alloc, &bytes, cut);
     }
 }
