@@ -1,7 +1,8 @@
 #!/bin/sh
-# Makes a record file from text, looks into it, and shows that the order of its bytes is that of its
-# records. It runs in a folder of its own and leaves nothing behind.
+# Makes a record file from text, looks into it, and shows that the order of its bytes is that of its records, and that
+# `tools/records.py` makes and reads the same. It runs in a folder of its own and leaves nothing behind.
 set -eu
+top=$(cd "$(dirname "$0")/.." && pwd)
 work=$(mktemp -d)
 trap 'rm -rf "$work"' EXIT
 cd "$work"
@@ -20,6 +21,11 @@ while read -r key value; do printf '%016X%016X' "$key" "$value"; done < records.
 # records to text
 od -An -v -w16 -t u8 --endian=big records.bin | awk '{ print $1, $2 }' > back.txt
 cmp records.txt back.txt
+
+# the same by a program
+"$top/tools/records.py" from-text pair by_program.bin records.txt
+cmp records.bin by_program.bin
+"$top/tools/records.py" to-text pair records.bin | cmp - records.txt
 
 # 16 bytes a record, and no header
 test "$(wc -c < records.bin)" -eq 80

@@ -11,7 +11,7 @@ cd "$work"
 
 # text: a time, one of the first 12 places, and a word
 awk -v count="$count" 'BEGIN { x = 7; for (i = 0; i < count; i++) { x = (x * 16807) % 2147483647; print x % 50021, x % 12, x % 1000003 } }' > events.txt
-"$top/examples/write_records.py" agenda.bin < events.txt
+"$top/tools/records.py" from-text triple agenda.bin < events.txt
 
 # as many events are handled as there are at first; `room` of docs/storage.md for twice as many, since a fork sends two
 blocks=$((2 * ((2 * count + 255) / 256) + 72 + 4 * 4))

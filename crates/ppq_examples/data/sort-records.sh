@@ -11,7 +11,7 @@ cd "$work"
 
 # text: keys and values in no order, some of them equal
 awk -v count="$count" 'BEGIN { x = 7; for (i = 0; i < count; i++) { x = (x * 16807) % 2147483647; print x % 50021, x % 7 } }' > records.txt
-"$top/examples/write_records.py" records.bin < records.txt
+"$top/tools/records.py" from-text pair records.bin < records.txt
 
 # all of them in, and out again, smallest first
 printf 'bulk records.bin\nbulk_pop %s\n' "$count" > sort.ppq
