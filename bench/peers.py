@@ -48,21 +48,29 @@ def build(command, where):
     return built.returncode, built.stdout
 
 
-def build_stxxl(folder):
-    """The peer over STXXL; none where its package cannot be had. What is not installed is unpacked into the folder."""
-    peer, root = folder / "stxxl", pathlib.Path("/usr")
+def build_stxxl(folder, source="queues.cpp", queue_bytes=MEMORY * 16):
+    """The peer over STXXL, whose queues have so many bytes each; none where its package cannot be had. What is not
+    installed is unpacked into the folder."""
+    peer, root = folder / f"stxxl.{pathlib.Path(source).stem}.{queue_bytes}", pathlib.Path("/usr")
     if not (root / "include" / "stxxl").exists():
         root = folder / "root" / "usr"
-        build(["apt-get", "download", *STXXL_PACKAGES], folder)
+        if not root.exists():
+            build(["apt-get", "download", *STXXL_PACKAGES], folder)
         for package in folder.glob("libstxxl*.deb"):
             build(["dpkg-deb", "-x", package, folder / "root"], folder)
-    flags = ["-O3", "-DNDEBUG", "-DSTXXL", "-w", "-std=c++14", "-fopenmp", f"-I{root}/include", f"-L{root}/lib"]
-    made = build(["c++", *flags, "-o", peer, BENCH / "queues.cpp", "-lstxxl", "-lpthread", f"-Wl,-rpath,{root}/lib"], folder)
+    flags = ["-O3", "-DNDEBUG", "-DSTXXL", f"-DQUEUE_BYTES={queue_bytes}", "-w", "-std=c++14", "-fopenmp", f"-I{root}/include", f"-L{root}/lib"]
+    made = build(["c++", *flags, "-o", peer, BENCH / source, "-lstxxl", "-lpthread", f"-Wl,-rpath,{root}/lib"], folder)
     (folder / "stxxl.cfg").write_text(f"disk={folder}/stxxl.disk,0,syscall direct=off delete\n")
     if made[0] == 0:
         return peer
     print("bench: no rows of STXXL: its packages cannot be had; `apt-get update` may help", file=sys.stderr)
     return None
+
+
+def stxxl_settings(folder):
+    """What the environment of a peer over STXXL has."""
+    files = {"STXXLCFG": str(folder / "stxxl.cfg"), "STXXLLOGFILE": "/dev/null", "STXXLERRLOGFILE": "/dev/null"}
+    return files | {"OMP_NUM_THREADS": "1"}
 
 
 class Peers:
@@ -75,12 +83,7 @@ class Peers:
         for peer, source in sources.items():
             subprocess.run(["c++", "-O2", "-o", peer, BENCH / source], check=True)
         self.stxxl = build_stxxl(folder)
-        self.settings = {
-            "STXXLCFG": str(folder / "stxxl.cfg"),
-            "STXXLLOGFILE": "/dev/null",
-            "STXXLERRLOGFILE": "/dev/null",
-            "OMP_NUM_THREADS": "1",
-        }
+        self.settings = stxxl_settings(folder)
 
     def sorting(self, count):
         """The external sort of the records of `gen`."""

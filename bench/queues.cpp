@@ -8,6 +8,7 @@
 // what was removed and the sum of the keys, as the command `drain` does. `hold SEED COUNT longest` prints also how
 // many microseconds the longest of its calls took. `print FILE` adds the records of a record file, removes them all
 // and prints their lines. `records SEED COUNT` writes a record file of the records of `gen SEED COUNT`.
+#include "pair_queue.hpp"
 #include <algorithm>
 #include <chrono>
 #include <cinttypes>
@@ -15,40 +16,11 @@
 #include <cstdio>
 #include <cstdlib>
 #include <cstring>
-#include <functional>
-#include <ostream>
-#include <queue>
-#include <vector>
 
-struct Pair {
-    uint64_t key, value;
-    bool operator<(const Pair &other) const {
-        return key < other.key || (key == other.key && value < other.value);
-    }
-    bool operator>(const Pair &other) const { return other < *this; }
-    bool operator==(const Pair &other) const { return key == other.key && value == other.value; }
-};
-inline std::ostream &operator<<(std::ostream &out, const Pair &pair) { return out << pair.key << " " << pair.value; }
-
-#ifdef STXXL
-#include <stxxl/priority_queue>
-struct After {
-    bool operator()(const Pair &one, const Pair &other) const { return other < one; }
-    Pair min_value() const { return {UINT64_MAX, UINT64_MAX}; }
-};
-// 16 MiB in memory, and pools of 2 MiB each for reading and for writing.
-using Queue = stxxl::PRIORITY_QUEUE_GENERATOR<Pair, After, 16 << 20, 96 * 1024>::result;
 static Queue &queue() {
-    static Queue *made = new Queue(2 << 20, 2 << 20);
+    static Queue *made = new_queue();
     return *made;
 }
-#else
-using Queue = std::priority_queue<Pair, std::vector<Pair>, std::greater<Pair>>;
-static Queue &queue() {
-    static Queue *made = new Queue;
-    return *made;
-}
-#endif
 
 struct Summary {
     uint64_t count = 0, sum = 0;
@@ -66,12 +38,6 @@ struct Summary {
 };
 
 static uint64_t next(uint64_t &number) { return number = number * 6364136223846793005u + 1442695040888963407u; }
-
-static Pair take(Queue &held) {
-    Pair least = held.top();
-    held.pop();
-    return least;
-}
 
 static void drain(Queue &held, uint64_t number, uint64_t count) {
     Summary summary;
