@@ -108,8 +108,8 @@ module _ {R : Type 0} (w : Words R) (laws : HasLaws w)
           run.over (pushed_in lines) (left_after w.cmp limit queue.bag (asks_in lines)) (pops_in (asks_in lines)) (run.broken.session queue limit run.begun)
 
       -- what stands where all was run, whatever files a library has
-      runs-part : (script : Reading R) (v : ⊤) → LinesRan new (Ok v) body → mid.front.failed ≡ None → (told : Option (List ℕ → Option (List ℕ))) → RunsPart w form told script queue new before now had has part
-      runs-part script v it sound told =
+      runs-part : (v : ⊤) → LinesRan new (Ok v) body → mid.front.failed ≡ None → (script : Reading R) (told : Option (List ℕ → Option (List ℕ))) → RunsPart w form told script queue new before now had has part
+      runs-part v it sound script told =
           let most = whole-high w laws workers limit body are queue.size in
           record {
             text = λ tells given. let P : List ℕ → Type 0 = λ t. Gathers before now had t has in subst P (sym (whole-output w laws workers limit body are form given queue.bag)) (it.text sound tells);
@@ -122,12 +122,12 @@ module _ {R : Type 0} (w : Words R) (laws : HasLaws w)
             kept = Keeps-begun queue new limit body it.over.kept;
           }
 
-      ran : (script : Reading R) (printed : Result ⊤ Failed) (ended : Result ⊤ QueueFault) → SessionRan old new printed ended → OnOk (session_end printed ended) ((told : Option (List ℕ → Option (List ℕ))) → RunsPart w form told script queue new before now had has part)
-      ran script (Ok v) (Ok w) run =
+      ran : (printed : Result ⊤ Failed) (ended : Result ⊤ QueueFault) → SessionRan old new printed ended → OnOk (session_end printed ended) ((script : Reading R) (told : Option (List ℕ → Option (List ℕ))) → RunsPart w form told script queue new before now had has part)
+      ran (Ok v) (Ok w) run =
           let all : run.lines.lines ≡ body = sym (run.lines.all ∙ ap (λ (cs : List (Command R)). run.lines.lines ++ cs) (run.lines.end run.going) ∙ append-nil run.lines.lines) in
-          runs-part script w (subst (LinesRan new (Ok w)) all (lines-ran v (Ok w) run)) run.going.front
-      ran script (Ok v) (Err fault) run = tt
-      ran script (Err failed) ended run = tt
+          runs-part w (subst (LinesRan new (Ok w)) all (lines-ran v (Ok w) run)) run.going.front
+      ran (Ok v) (Err fault) run = tt
+      ran (Err failed) ended run = tt
 
       -- the queue refused: up to the last line that was run all is gathered, or what was answered before a call of a slot failed
       refused : (v : ⊤) (fault : QueueFault) → SessionRan old new (Ok v) (Err fault) → RefusedAt w form queue.slots before now had queue.bag queue.size queue.peak part queue.sizes true new.slots has fault
@@ -202,8 +202,8 @@ module _ {R : Type 0} (w : Words R) (laws : HasLaws w)
       ended-counted (Err failed) ended run = (broken-over failed ended run).counted
 
       module _ (printed : Result ⊤ Failed) (ended : Result ⊤ QueueFault) (s : Result ⊤ Stop) (e : s ≡ session_end printed ended) (run : SessionRan old new printed ended) where
-        pub ended-runs : (script : Reading R) → OnOk s ((told : Option (List ℕ → Option (List ℕ))) → RunsPart w form told script queue new before now had has part)
-        ended-runs script = let P : Result ⊤ Stop → Type 0 = λ x. OnOk x ((told : Option (List ℕ → Option (List ℕ))) → RunsPart w form told script queue new before now had has part) in subst P (sym e) (ran script printed ended run)
+        pub ended-runs : OnOk s ((script : Reading R) (told : Option (List ℕ → Option (List ℕ))) → RunsPart w form told script queue new before now had has part)
+        ended-runs = let P : Result ⊤ Stop → Type 0 = λ x. OnOk x ((script : Reading R) (told : Option (List ℕ → Option (List ℕ))) → RunsPart w form told script queue new before now had has part) in subst P (sym e) (ran printed ended run)
 
         pub ended-stopped : IfErr s Stops
         ended-stopped = let P : Result ⊤ Stop → Type 0 = λ x. IfErr x Stops in subst P (sym e) (stopped printed ended run)

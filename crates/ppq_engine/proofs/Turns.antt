@@ -88,14 +88,14 @@ session-quiet shown queue records load new (Err NoFreeBlock) session left = left
 session-quiet shown queue records load new (Err (Device number)) session left = tt
 
 -- a bulk session
-module _ {R : Type 0} (w : Words R) (laws : HasLaws w) (script : Reading R) (workers : ℕ) (body : List (Command R)) (are : AreLines w workers InBulk body) (old new : Holding R) (had : List ℕ) where
+module _ {R : Type 0} (w : Words R) (laws : HasLaws w) (workers : ℕ) (body : List (Command R)) (are : AreLines w workers InBulk body) (old new : Holding R) (had : List ℕ) where
   -- it ran to its end
-  bulk-ran : (v : ⊤) → IsLoaded old (pushed_in body) new (Ok v) → GoesAlone w script BulkBegin (bulk_part body) old new had had (Ok v)
+  bulk-ran : (v : ⊤) → IsLoaded old (pushed_in body) new (Ok v) → GoesAlone w BulkBegin (bulk_part body) old new had had (Ok v)
   bulk-ran v loaded =
       let least = bulk-part_size w all_go workers old.size body are in
       let most = bulk-part_size w none_go workers old.size body are in
       record {
-        goes = λ form files put. record {
+        goes = λ form files script put. record {
           runs = record {
             text = λ tells given. let P : List ℕ → Type 0 = λ t. Gathers put put had t had in subst P (sym (bulk-silent w laws given form workers old.bag body are)) (gathers-nothing put had);
             bag = λ tells files known p. loaded.bag tells p ∙ sym (bulk-bag w laws (given_of w files script) workers old.bag body are p);
@@ -118,9 +118,9 @@ module _ {R : Type 0} (w : Words R) (laws : HasLaws w) (script : Reading R) (wor
   -- it did not, or did not begin
   pub bulk-stopped :
       {T E : Type 0} {q : Result T E} (stop : Stop) → IsBySession stop → StopsFor (max old.peak (old.size + length (pushed_in body))) old.sizes old.limited new.slots stop → StopsQuiet old.slots new.slots stop → Keeps old new
-      → (n : ℕ) → n ≤ length (pushed_in body) → CountsFew n 1 old new q → GoesAlone w script BulkBegin (bulk_part body) old new had had (Err stop)
+      → (n : ℕ) → n ≤ length (pushed_in body) → CountsFew n 1 old new q → GoesAlone w BulkBegin (bulk_part body) old new had had (Err stop)
   bulk-stopped {q = q} stop by why quiet kept n few counts = record {
-    goes = λ form files put. record {
+    goes = λ form files script put. record {
       runs = tt;
       stopped = record { wrote = bulk-stops w laws form old.slots put had old.bag old.size old.peak old.sizes old.limited new.slots workers body are stop by why; of_file = limit_of_file BulkBegin stop tt (session-by_limit stop by) };
       quiet = quiet;
@@ -134,25 +134,25 @@ module _ {R : Type 0} (w : Words R) (laws : HasLaws w) (script : Reading R) (wor
   -- what its end answered: where no pass has stopped, all its records were given
   pub bulk-ended :
       (printed : ⊤) (over : Result ⊤ QueueFault) (s : Result ⊤ Stop) → s ≡ session_end (Ok printed) over → OnOk over (IsLoaded old (pushed_in body) new over)
-      → (given : List R) → length given ≤ length (pushed_in body) → 0 < old.sizes.block → IsLoaded old given new over → IfErr over (QuietIfFull old.slots new.slots) → GoesAlone w script BulkBegin (bulk_part body) old new had had s
-  bulk-ended printed (Ok v) s e all given fewer block loaded quiet = subst (GoesAlone w script BulkBegin (bulk_part body) old new had had) (sym e) (bulk-ran v all)
+      → (given : List R) → length given ≤ length (pushed_in body) → 0 < old.sizes.block → IsLoaded old given new over → IfErr over (QuietIfFull old.slots new.slots) → GoesAlone w BulkBegin (bulk_part body) old new had had s
+  bulk-ended printed (Ok v) s e all given fewer block loaded quiet = subst (GoesAlone w BulkBegin (bulk_part body) old new had had) (sym e) (bulk-ran v all)
   bulk-ended printed (Err fault) s e all given fewer block loaded quiet =
       let few = max old.peak (old.size + length given) in
       let most = max old.peak (old.size + length (pushed_in body)) in
-      subst (GoesAlone w script BulkBegin (bulk_part body) old new had had) (sym e)
+      subst (GoesAlone w BulkBegin (bulk_part body) old new had had) (sym e)
       (bulk-stopped (Queue fault) tt (cause-later old.sizes old.limited old.limited few most block (λ same. same) (omega (arith, fewer)) new.slots fault loaded.refused) quiet loaded.kept (length given) fewer loaded.counted)
 
 -- a limit session
 pub limit-goes :
-    {R : Type 0} (w : Words R) (form : Form) (script : Reading R) (limit : R) (body : List (Command R)) (old new : Holding R) (before now : Option (List ℕ)) (had has : List ℕ) (s : Result ⊤ Stop)
-    → OnOk s ((files : Option (List ℕ → Option (List ℕ))) → RunsPart w form files script old new before now had has (limit_part limit body)) → IfErr s IsByLimit
+    {R : Type 0} (w : Words R) (form : Form) (limit : R) (body : List (Command R)) (old new : Holding R) (before now : Option (List ℕ)) (had has : List ℕ) (s : Result ⊤ Stop)
+    → OnOk s ((script : Reading R) (files : Option (List ℕ → Option (List ℕ))) → RunsPart w form files script old new before now had has (limit_part limit body)) → IfErr s IsByLimit
     → IfErr s (PartStops w form old.slots before now had old.bag old.size old.peak (limit_part limit body) old.sizes true new.slots has) → IfErr s (StopsQuiet old.slots new.slots) → SameSlots old.slots new.slots → new.sizes ≡ old.sizes
-    → (n : ℕ) → n ≤ length (pushed_in body) → CountsFew n 1 old new s → (files : Option (List ℕ → Option (List ℕ))) → Goes w form files script (LimitBegin limit) (limit_part limit body) before now old new had has s
-limit-goes w form script limit body old new before now had has s runs by stops quiet slots sizes n few counts files =
+    → (n : ℕ) → n ≤ length (pushed_in body) → CountsFew n 1 old new s → (files : Option (List ℕ → Option (List ℕ))) (script : Reading R) → Goes w form files script (LimitBegin limit) (limit_part limit body) before now old new had has s
+limit-goes {R} w form limit body old new before now had has s runs by stops quiet slots sizes n few counts files script =
     let part = limit_part limit body in
     let Wrote : Bool → Stop → Type 0 = λ l stop. PartStops w form old.slots before now had old.bag old.size old.peak part old.sizes l new.slots has stop in
     record {
-      runs = on-ok-map s ((told : Option (List ℕ → Option (List ℕ))) → RunsPart w form told script old new before now had has part) (RunsPart w form files script old new before now had has part) (λ all. all files) runs;
+      runs = on-ok-map s ((script : Reading R) (told : Option (List ℕ → Option (List ℕ))) → RunsPart w form told script old new before now had has part) (RunsPart w form files script old new before now had has part) (λ all. all script files) runs;
       stopped =
           IfErr-weaker s (λ stop. IsByLimit stop × Wrote true stop) (StopsPart w form old new before now had has (LimitBegin limit) part)
           (λ stop why. record { wrote = let P : Bool → Type 0 = λ l. Wrote l stop in subst P (sym (or-true old.limited)) why.1; of_file = limit_of_file (LimitBegin limit) stop tt why.0 })

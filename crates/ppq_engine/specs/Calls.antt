@@ -155,9 +155,9 @@ pub record Goes {R : Type 0} (w : Words R) (form : Form) (files : Option (List �
   pub sizes : new.sizes ≡ old.sizes
   pub counted : CountsFew (pushed_by w part) (begun_by part) old new result
 
--- the same of commands that need no file and print nothing
-pub record GoesAlone {R : Type 0} (w : Words R) (script : Reading R) (first : Command R) (part : List (Command R)) (old new : Holding R) (had has : List ℕ) (result : Result ⊤ Stop) : Type 0 where
-  pub goes : (form : Form) (files : Option (List ℕ → Option (List ℕ))) (put : Option (List ℕ)) → Goes w form files script first part put put old new had has result
+-- the same of commands that need no file and print nothing, in any script
+pub record GoesAlone {R : Type 0} (w : Words R) (first : Command R) (part : List (Command R)) (old new : Holding R) (had has : List ℕ) (result : Result ⊤ Stop) : Type 0 where
+  pub goes : (form : Form) (files : Option (List ℕ → Option (List ℕ))) (script : Reading R) (put : Option (List ℕ)) → Goes w form files script first part put put old new had has result
   pub by_session : IfErr result IsBySession
 
 -- a checked script of whose files the library tells the lengths that it keeps, and a queue for its workers that nothing was done with

@@ -8,19 +8,21 @@ use ppq_script::{Fields, Memory};
 use ppq_text::{Gathered, OnHeap};
 use std::alloc::Global;
 
-// What commands work with beside the queue. The memory for all of it is allocated once.
+/// What commands work with beside the queue. The memory for all of it is allocated once: 64 KiB for text, a
+/// list of a block of records for each worker, and a piece of a file of as many records.
 #[derive(Drop)]
 pub struct Desk<R: Fields> {
-    // The records of a round of a pop.
+    /// The records of a round of a pop.
     pub list: Out<R>,
-    // What was printed and not yet put.
+    /// What was printed and not yet put.
     pub gathered: Gathered<OnHeap>,
-    // A piece of a file.
+    /// A piece of a file.
     pub room: Vec<u8>,
 }
 
 impl<R: Fields> Desk<R> {
-    // An empty desk, for a queue of these sizes.
+    /// An empty desk, for a queue of these sizes. It allocates all the memory of a desk; `Memory` comes if an
+    /// allocation fails.
     pub fn new(alloc: Global, sizes: &Sizes) -> Result<Desk<R>, Memory>
         ensures gathered { IfOk result (λ desk. desk.gathered ≡ []) }
         ensures list { IfOk result (λ desk. desk.list.room ≡ batch_of sizes.now) }

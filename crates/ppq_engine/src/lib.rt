@@ -21,11 +21,19 @@ mod stop;
 mod world;
 
 pub use answer::Answer;
+pub use desk::Desk;
 pub use drained::Drained;
 pub use end::{End, Ended};
 pub use laws::session_laws;
+pub use machine::Machine;
 pub use ppq_load::{
-    BeginFault, Context, FileFault, LoadFault, Maker, OpenFault, Piece, Pieces, Session, load_file,
+    BeginFault, Context, FileFault, LoadFault, Maker, OpenFault, Out, Piece, Pieces, Queue,
+    QueueFault, Session, Sizes, load_file,
 };
-pub use ppq_script::{Form, Head, Library, Memory, Script, Sink, check_files, read, read_head};
-pub use run::run_script;
+pub use ppq_script::{
+    Command, Form, Head, Library, Memory, Script, Sink, check_files, read, read_head,
+};
+pub use ppq_text::{Gathered, OnHeap};
+pub use run::{fault_end, put_rest, put_stopped, run_script, unopened};
+pub use stop::Stop;
+pub use world::World;

@@ -2,6 +2,7 @@
 ghost use Rattle.std.specs.Prelude.{List, ℕ, Option, OnOk, OnErr, IfErr};
 ghost use Rattle.ppq_script.specs.ppq_outside.Told.{HasOneCause};
 ghost use Rattle.ppq_script.specs.Parts.{AreLines, limit_part, commands_of};
+ghost use Rattle.ppq_script.specs.Reading.{Reading};
 ghost use Rattle.ppq_script.specs.declared.command.Command.TheVariants.{LimitBegin};
 ghost use Rattle.ppq_script.specs.declared.session.Session.TheVariants.{InLimit};
 ghost use Rattle.ppq_load.specs.ppq_session.LimitSessions.{AreGoing};
@@ -22,7 +23,7 @@ use ppq_text::{Gathered, OnHeap};
 // Runs lines of a session in batches, and prints what each batch answered, up to the first batch in which
 // a pass or the front stopped.
 fn run_lines<H: Host, S: Slot + Send + Sync, R: Fields + Send + Sync, O: Sink, G: Gate>(
-    world: &World<'_, H, G, R>,
+    world: &World<'_, H, G>,
     session: &mut LimitSession<S, R>,
     lines: &[Numbered<R>],
     batch: &mut Batch<R>,
@@ -54,9 +55,9 @@ impl<S: Slot + Send + Sync, R: Fields + Send + Sync> Machine<S, R> {
     // Runs a limit session with this limit and these lines: they are run in batches of at most as many as a
     // round has records, in which the front answers its lines beside the passes, and the answers are printed
     // in the order of lines. The queue has the passes' records at the end. It returns the machine.
-    pub fn run_limit<H: Host, O: Sink, G: Gate>(
+    pub(crate) fn run_limit<H: Host, O: Sink, G: Gate>(
         self,
-        world: &World<'_, H, G, R>,
+        world: &World<'_, H, G>,
         limit: R,
         lines: &[Numbered<R>],
         out: &mut O,
@@ -64,7 +65,7 @@ impl<S: Slot + Send + Sync, R: Fields + Send + Sync> Machine<S, R> {
     where
         H::Dir: Send,
         requires lines { AreLines R.Fields self.queue.sizes.workers (InLimit limit) (commands_of lines.now) }
-        ensures goes { (files : Option (List ℕ → Option (List ℕ))) → Goes R.Fields world.now.form files world.now.script.now (LimitBegin limit) (limit_part limit (commands_of lines.now)) (O.told out.old) (O.told out.new) self.queue result.0.queue self.desk.gathered result.0.desk.gathered result.1 }
+        ensures goes { (files : Option (List ℕ → Option (List ℕ))) (script : Reading R) → Goes R.Fields world.now.form files script (LimitBegin limit) (limit_part limit (commands_of lines.now)) (O.told out.old) (O.told out.new) self.queue result.0.queue self.desk.gathered result.0.desk.gathered result.1 }
         ensures by_limit { IfErr result.1 IsByLimit }
         ensures sink { SinkCounts (O.faults out.old) (O.faults out.new) result.1 }
     {

@@ -10,7 +10,7 @@ use crate::machine::Machine;
 use crate::stop::Stop;
 use crate::world::World;
 use ppq_load::{LoadFault, load_file, load_generated};
-use ppq_script::{Fields, Gate, Host, Library, Slot};
+use ppq_script::{Fields, Gate, Host, Library, Script, Slot};
 
 // A fault of a load, for the command on this line, whose file has so many bytes.
 fn stop_of(fault: LoadFault, line: u32, said: u64) -> Stop
@@ -36,26 +36,27 @@ fn stopped(loaded: Result<(), LoadFault>, line: u32, said: u64) -> Result<(), St
 
 impl<S: Slot + Send + Sync, R: Fields + Send + Sync> Machine<S, R> {
     // Adds so many generated records. It returns the machine.
-    pub fn push_generated<H: Host, G: Gate>(
+    pub(crate) fn push_generated<H: Host, G: Gate>(
         self,
-        world: &World<'_, H, G, R>,
+        world: &World<'_, H, G>,
         seed: u64,
         count: u64,
     ) -> (Machine<S, R>, Result<(), Stop>)
     where
         H::Dir: Send,
-        ensures { GoesAlone R.Fields world.now.script.now (Gen seed count) (Gen seed count ∷ []) self.queue result.0.queue self.desk.gathered result.0.desk.gathered result.1 }
+        ensures { GoesAlone R.Fields (Gen seed count) (Gen seed count ∷ []) self.queue result.0.queue self.desk.gathered result.0.desk.gathered result.1 }
     {
         let Machine { queue, desk } = self;
         let (queue, loaded) = load_generated(world.rt, world.alloc, queue, seed, count, world.gate);
         (Machine { queue, desk }, stopped(loaded, 0, 0))
     }
 
-    // Adds the records of a file of `said` bytes, for the command at this place of the script. They are
+    // Adds the records of a file of `said` bytes, for the command at this place of this script. They are
     // read by pieces of as many records as the desk has room for. It returns the machine.
-    pub fn push_file<H: Host, L: Library, G: Gate>(
+    pub(crate) fn push_file<H: Host, L: Library, G: Gate>(
         self,
-        world: &World<'_, H, G, R>,
+        world: &World<'_, H, G>,
+        script: &Script<R>,
         place: usize,
         file: u32,
         said: u64,
@@ -63,14 +64,14 @@ impl<S: Slot + Send + Sync, R: Fields + Send + Sync> Machine<S, R> {
     ) -> (Machine<S, R>, Result<(), Stop>)
     where
         H::Dir: Send,
-        requires turn { IsTurn R.Fields world.now.script.now self.queue place (One (Bulk file said)) }
-        requires lengths { TellsLengths (L.told library.old) world.now.script.now }
-        ensures goes { (put : Option (List ℕ)) → Goes R.Fields world.now.form (L.told library.old) world.now.script.now (Bulk file said) (Bulk file said ∷ []) put put self.queue result.0.queue self.desk.gathered result.0.desk.gathered result.1 }
+        requires turn { IsTurn R.Fields script.now self.queue place (One (Bulk file said)) }
+        requires lengths { TellsLengths (L.told library.old) script.now }
+        ensures goes { (put : Option (List ℕ)) → Goes R.Fields world.now.form (L.told library.old) script.now (Bulk file said) (Bulk file said ∷ []) put put self.queue result.0.queue self.desk.gathered result.0.desk.gathered result.1 }
         ensures by_file { IfErr result.1 IsByFile }
-        ensures library { LibraryCounts (L.told library.old) (L.told library.new) (L.replied library.old) (L.replied library.new) world.now.script.now (L.faults library.old) (L.faults library.new) result.1 }
+        ensures library { LibraryCounts (L.told library.old) (L.told library.new) (L.replied library.old) (L.replied library.new) script.now (L.faults library.old) (L.faults library.new) result.1 }
     {
-        let name = world.script.name(file);
-        let line = world.script.line(place);
+        let name = script.name(file);
+        let line = script.line(place);
         let Machine { queue, desk } = self;
         let mut desk = desk;
         let (queue, loaded) = load_file(

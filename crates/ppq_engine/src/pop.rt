@@ -55,7 +55,7 @@ impl<S: Slot + Send + Sync, R: Fields + Send + Sync> Machine<S, R> {
     // those below the limit where there is one. They are in the list.
     fn pop_round<H: Host, G: Gate>(
         &mut self,
-        world: &World<'_, H, G, R>,
+        world: &World<'_, H, G>,
         below: Option<R>,
         count: u64,
     ) -> Result<(), QueueFault>
@@ -84,9 +84,9 @@ impl<S: Slot + Send + Sync, R: Fields + Send + Sync> Machine<S, R> {
     }
 
     // Removes up to so many smallest records, and says what they add up to.
-    pub fn drain<H: Host, G: Gate>(
+    pub(crate) fn drain<H: Host, G: Gate>(
         &mut self,
-        world: &World<'_, H, G, R>,
+        world: &World<'_, H, G>,
         count: u64,
     ) -> Result<Drained<R>, QueueFault>
     where
@@ -112,9 +112,9 @@ impl<S: Slot + Send + Sync, R: Fields + Send + Sync> Machine<S, R> {
 
     // Removes up to so many smallest records, only those below the limit where there is one, and prints
     // them.
-    pub fn print_popped<H: Host, O: Sink, G: Gate>(
+    pub(crate) fn print_popped<H: Host, O: Sink, G: Gate>(
         &mut self,
-        world: &World<'_, H, G, R>,
+        world: &World<'_, H, G>,
         below: Option<R>,
         count: u64,
         out: &mut O,
@@ -150,7 +150,7 @@ impl<S: Slot + Send + Sync, R: Fields + Send + Sync> Machine<S, R> {
     // Whether a record below the limit is left.
     fn mark_of<H: Host, G: Gate>(
         &mut self,
-        world: &World<'_, H, G, R>,
+        world: &World<'_, H, G>,
         limit: R,
     ) -> Result<Answer<R>, QueueFault>
     where
@@ -173,9 +173,9 @@ impl<S: Slot + Send + Sync, R: Fields + Send + Sync> Machine<S, R> {
 
     // Removes up to so many smallest records that are below the limit, and prints them, and then whether none
     // below it is left.
-    pub fn print_limited<H: Host, O: Sink, G: Gate>(
+    pub(crate) fn print_limited<H: Host, O: Sink, G: Gate>(
         &mut self,
-        world: &World<'_, H, G, R>,
+        world: &World<'_, H, G>,
         limit: R,
         count: u64,
         out: &mut O,

@@ -29,36 +29,36 @@ use ppq_text::{Gathered, OnHeap};
 use std::alloc::Global;
 
 impl<S: Slot + Send + Sync, R: Fields + Send + Sync> Machine<S, R> {
-    // Runs the commands of the script in order up to the first that does not run to its end, and gathers
+    // Runs the commands of this script in order up to the first that does not run to its end, and gathers
     // what they print. It returns the machine.
     fn run<H: Host, L: Library, O: Sink, G: Gate>(
         self,
-        world: &World<'_, H, G, R>,
+        world: &World<'_, H, G>,
+        script: &Script<R>,
         library: &mut L,
         out: &mut O,
     ) -> (Machine<S, R>, Result<(), Stop>)
     where
         H::Dir: Send,
-        requires may { MayRun (L.told library.old) world.now.script.now self.queue }
+        requires may { MayRun (L.told library.old) script.now self.queue }
         requires block { 0 < self.queue.sizes.block }
         requires gathered { self.desk.gathered ≡ [] }
-        ensures runs { OnOk result.1 (RunsAll R.Fields world.now.form (L.told library.old) world.now.script.now self.queue result.0.queue (O.told out.old) (O.told out.new) result.0.desk.gathered) }
-        ensures stopped { IfErr result.1 (ScriptStopped R.Fields world.now.form (L.told library.old) world.now.script.now self.queue.slots (O.told out.old) (O.told out.new) result.0.desk.gathered self.queue.sizes result.0.queue.slots) }
+        ensures runs { OnOk result.1 (RunsAll R.Fields world.now.form (L.told library.old) script.now self.queue result.0.queue (O.told out.old) (O.told out.new) result.0.desk.gathered) }
+        ensures stopped { IfErr result.1 (ScriptStopped R.Fields world.now.form (L.told library.old) script.now self.queue.slots (O.told out.old) (O.told out.new) result.0.desk.gathered self.queue.sizes result.0.queue.slots) }
         ensures quiet { IfErr result.1 (StopsQuiet self.queue.slots result.0.queue.slots) }
         ensures slots { SameSlots self.queue.slots result.0.queue.slots }
-        ensures counted { IsWithinWork R.Fields (command_list world.now.script.now) self.queue.sizes result.0.queue }
-        ensures library { LibraryCounts (L.told library.old) (L.told library.new) (L.replied library.old) (L.replied library.new) world.now.script.now (L.faults library.old) (L.faults library.new) result.1 }
+        ensures counted { IsWithinWork R.Fields (command_list script.now) self.queue.sizes result.0.queue }
+        ensures library { LibraryCounts (L.told library.old) (L.told library.new) (L.replied library.old) (L.replied library.new) script.now (L.faults library.old) (L.faults library.new) result.1 }
         ensures sink { SinkCounts (O.faults out.old) (O.faults out.new) result.1 }
     {
         record_laws::<R>();
-        let script = world.script;
         script.checked();
         let mut machine = self;
         let mut place = 0;
         'commands: while place < script.len() {
             let part = script.part(place);
             let count = part.count();
-            let (back, result) = machine.advance(world, place, part, library, out);
+            let (back, result) = machine.advance(world, script, place, part, library, out);
             machine = back;
             match result {
                 Ok(()) => {}
@@ -71,8 +71,8 @@ impl<S: Slot + Send + Sync, R: Fields + Send + Sync> Machine<S, R> {
     }
 }
 
-// A fault of the queue as an end.
-fn fault_end(fault: QueueFault) -> End
+/// A fault of the queue as an end: `NoFreeBlock` or `DeviceFault`.
+pub fn fault_end(fault: QueueFault) -> End
     ensures { result ≡ queue_end fault }
 {
     match fault {
@@ -81,8 +81,8 @@ fn fault_end(fault: QueueFault) -> End
     }
 }
 
-// Why a queue was not opened, as an end.
-fn unopened(fault: OpenFault) -> End
+/// Why a queue was not opened, as an end: `BudgetTooSmall` or `Memory`.
+pub fn unopened(fault: OpenFault) -> End
     ensures { result ≡ open_end fault }
 {
     match fault {
@@ -91,8 +91,13 @@ fn unopened(fault: OpenFault) -> End
     }
 }
 
-// Puts what was gathered, before this end.
-fn put_rest<H: Host, O: Sink>(rt: &H, end: End, gathered: &mut Gathered<OnHeap>, out: &mut O) -> End
+/// Puts what was gathered, before this end, and returns it; or `WriteFault` if the sink failed. It is one call of the sink.
+pub fn put_rest<H: Host, O: Sink>(
+    rt: &H,
+    end: End,
+    gathered: &mut Gathered<OnHeap>,
+    out: &mut O,
+) -> End
     ensures puts { PutsRest (O.told out.old) (O.told out.new) (O.faults out.old) (O.faults out.new) gathered.old end result }
     ensures later { O.faults out.old ≤ O.faults out.new }
 {
@@ -102,8 +107,9 @@ fn put_rest<H: Host, O: Sink>(rt: &H, end: End, gathered: &mut Gathered<OnHeap>,
     }
 }
 
-// Puts what was gathered before the commands stopped, unless it was the sink that stopped them.
-fn put_stopped<H: Host, O: Sink>(
+/// Puts what was gathered before the commands stopped, unless it was the sink that stopped them, and returns why they
+/// stopped, as an end; or `WriteFault` if the sink failed.
+pub fn put_stopped<H: Host, O: Sink>(
     rt: &H,
     stop: Stop,
     gathered: &mut Gathered<OnHeap>,
@@ -133,7 +139,8 @@ fn run_opened<
     O: Sink,
     G: Gate,
 >(
-    world: &World<'_, H, G, R>,
+    world: &World<'_, H, G>,
+    script: &Script<R>,
     desk: Desk<R>,
     queue: Queue<S, R>,
     library: &mut L,
@@ -141,20 +148,20 @@ fn run_opened<
 ) -> (Queue<S, R>, End)
 where
     H::Dir: Send,
-    requires may { MayRun (L.told library.old) world.now.script.now queue }
+    requires may { MayRun (L.told library.old) script.now queue }
     requires gathered { desk.gathered ≡ [] }
     requires round { desk.list.room ≡ batch_of queue.sizes }
     requires piece { R.WIDTH ≤ length desk.room.items }
-    ensures ends { EndsRun R.Fields world.now.form (L.told library.old) (L.replied library.new) world.now.script.now queue result.0 (O.told out.old) (O.told out.new) (O.faults out.old) (O.faults out.new) (L.faults library.old) (L.faults library.new) result.1 }
+    ensures ends { EndsRun R.Fields world.now.form (L.told library.old) (L.replied library.new) script.now queue result.0 (O.told out.old) (O.told out.new) (O.faults out.old) (O.faults out.new) (L.faults library.old) (L.faults library.new) result.1 }
     ensures slots { SameSlots queue.slots result.0.slots }
-    ensures transfers { TransfersFew R.Fields (command_list world.now.script.now) queue.sizes result.0.slots }
-    ensures library { LibraryStays (L.told library.old) (L.told library.new) (L.replied library.old) (L.replied library.new) world.now.script.now (L.faults library.old) (L.faults library.new) }
+    ensures transfers { TransfersFew R.Fields (command_list script.now) queue.sizes result.0.slots }
+    ensures library { LibraryStays (L.told library.old) (L.told library.new) (L.replied library.old) (L.replied library.new) script.now (L.faults library.old) (L.faults library.new) }
     ensures later { O.faults out.old ≤ O.faults out.new }
 {
     record_laws::<R>();
     queue.known();
     let machine = Machine { queue, desk };
-    let (machine, result) = machine.run(world, library, out);
+    let (machine, result) = machine.run(world, script, library, out);
     let Machine { queue, desk } = machine;
     queue.known();
     let mut gathered = desk.gathered;
@@ -273,11 +280,10 @@ where
     let world = World {
         rt,
         alloc,
-        script,
         gate,
         form,
     };
-    let (queue, end) = run_opened(&world, desk, queue, library, out);
+    let (queue, end) = run_opened(&world, script, desk, queue, library, out);
     Ended {
         end,
         blocks: queue.close(),

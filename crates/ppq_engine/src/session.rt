@@ -19,7 +19,7 @@ use ppq_script::{Failed, Fields, Gate, Host, Numbered, Slot};
 
 // Gives the records of lines to the passes, in batches, until one stops.
 fn push_all<H: Host, S: Slot + Send + Sync, R: Fields + Send + Sync, G: Gate>(
-    world: &World<'_, H, G, R>,
+    world: &World<'_, H, G>,
     session: &mut Session<S, R>,
     lines: &[Numbered<R>],
     batch: &mut Collected<R>,
@@ -55,15 +55,15 @@ pub fn ended(printed: Result<(), Failed>, over: Result<(), QueueFault>) -> Resul
 impl<S: Slot + Send + Sync, R: Fields + Send + Sync> Machine<S, R> {
     // Runs a bulk session with these lines: they go to the passes in batches of at most as many as a round
     // has records, and the queue has their records at the end. It returns the machine.
-    pub fn run_bulk<H: Host, G: Gate>(
+    pub(crate) fn run_bulk<H: Host, G: Gate>(
         self,
-        world: &World<'_, H, G, R>,
+        world: &World<'_, H, G>,
         lines: &[Numbered<R>],
     ) -> (Machine<S, R>, Result<(), Stop>)
     where
         H::Dir: Send,
         requires lines { AreLines R.Fields self.queue.sizes.workers InBulk (commands_of lines.now) }
-        ensures { GoesAlone R.Fields world.now.script.now BulkBegin (bulk_part (commands_of lines.now)) self.queue result.0.queue self.desk.gathered result.0.desk.gathered result.1 }
+        ensures { GoesAlone R.Fields BulkBegin (bulk_part (commands_of lines.now)) self.queue result.0.queue self.desk.gathered result.0.desk.gathered result.1 }
     {
         record_laws::<R>();
         let Machine { queue, desk } = self;

@@ -15,13 +15,13 @@ use crate::print::print;
 use crate::stop::Stop;
 use crate::world::World;
 use ppq_load::QueueFault;
-use ppq_script::{Command, Fields, Gate, Host, Library, Part, Sink, Slot};
+use ppq_script::{Command, Fields, Gate, Host, Library, Part, Script, Sink, Slot};
 
 impl<S: Slot + Send + Sync, R: Fields + Send + Sync> Machine<S, R> {
     // Runs a command that adds one record at the most and prints one answer.
     fn act<H: Host, G: Gate>(
         &mut self,
-        world: &World<'_, H, G, R>,
+        world: &World<'_, H, G>,
         command: Command<R>,
     ) -> Result<Answer<R>, QueueFault>
     where
@@ -64,10 +64,14 @@ impl<S: Slot + Send + Sync, R: Fields + Send + Sync> Machine<S, R> {
         }
     }
 
-    // Runs a command that lends the queue to calls of it, and prints what it answers.
-    fn lend<H: Host, O: Sink, G: Gate>(
+    /// Runs one command that needs no session and no file, on whatever the queue holds: `push`, `pop`, `top`,
+    /// `size`, `drain`, `bulk_pop` or `bulk_pop_limit`. What it prints is gathered in the desk, and put where
+    /// there is no room for more; put what is gathered at the end. `Sink` comes if the sink failed, and `Queue` if
+    /// a block failed or none was free. It allocates nothing. It costs what the call of the queue costs, and beside
+    /// it what the printed records are long.
+    pub fn lend<H: Host, O: Sink, G: Gate>(
         &mut self,
-        world: &World<'_, H, G, R>,
+        world: &World<'_, H, G>,
         command: Command<R>,
         out: &mut O,
     ) -> Result<(), Stop>
@@ -91,10 +95,11 @@ impl<S: Slot + Send + Sync, R: Fields + Send + Sync> Machine<S, R> {
         }
     }
 
-    // Runs the commands of a part, at this place of the script. It returns the machine.
-    pub fn advance<H: Host, L: Library, O: Sink, G: Gate>(
+    // Runs the commands of a part, at this place of this script. It returns the machine.
+    pub(crate) fn advance<H: Host, L: Library, O: Sink, G: Gate>(
         self,
-        world: &World<'_, H, G, R>,
+        world: &World<'_, H, G>,
+        script: &Script<R>,
         place: usize,
         part: Part<'_, R>,
         library: &mut L,
@@ -102,10 +107,10 @@ impl<S: Slot + Send + Sync, R: Fields + Send + Sync> Machine<S, R> {
     ) -> (Machine<S, R>, Result<(), Stop>)
     where
         H::Dir: Send,
-        requires turn { IsTurn R.Fields world.now.script.now self.queue place part }
-        requires lengths { TellsLengths (L.told library.old) world.now.script.now }
-        ensures goes { Goes R.Fields world.now.form (L.told library.old) world.now.script.now (first_in part.entry) (commands_in part.entry) (O.told out.old) (O.told out.new) self.queue result.0.queue self.desk.gathered result.0.desk.gathered result.1 }
-        ensures library { LibraryCounts (L.told library.old) (L.told library.new) (L.replied library.old) (L.replied library.new) world.now.script.now (L.faults library.old) (L.faults library.new) result.1 }
+        requires turn { IsTurn R.Fields script.now self.queue place part }
+        requires lengths { TellsLengths (L.told library.old) script.now }
+        ensures goes { Goes R.Fields world.now.form (L.told library.old) script.now (first_in part.entry) (commands_in part.entry) (O.told out.old) (O.told out.new) self.queue result.0.queue self.desk.gathered result.0.desk.gathered result.1 }
+        ensures library { LibraryCounts (L.told library.old) (L.told library.new) (L.replied library.old) (L.replied library.new) script.now (L.faults library.old) (L.faults library.new) result.1 }
         ensures sink { SinkCounts (O.faults out.old) (O.faults out.new) result.1 }
     {
         let command = match part {
@@ -115,7 +120,7 @@ impl<S: Slot + Send + Sync, R: Fields + Send + Sync> Machine<S, R> {
         };
         match command {
             Command::Bulk { file, length } => {
-                self.push_file(world, place, file, length, library)
+                self.push_file(world, script, place, file, length, library)
             }
             Command::Gen { seed, count } => self.push_generated(world, seed, count),
             _ => {

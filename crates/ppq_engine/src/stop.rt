@@ -2,18 +2,18 @@
 use ppq_load::{BeginFault, QueueFault};
 use ppq_script::Failed;
 
-// Why the commands of a script did not all run.
+/// Why commands did not all run: what stopped the first that did not run to its end.
 #[derive(Clone, Copy, Debug, PartialEq, Eq)]
 pub enum Stop {
-    // The sink failed.
+    /// The sink failed.
     Sink,
-    // The queue did not do a command.
+    /// The queue did not do a command: no block was free, or one failed.
     Queue { fault: QueueFault },
-    // The library failed.
+    /// The library failed.
     Read,
-    // An allocation for a session or a read failed.
+    /// An allocation for a session or a read failed.
     Memory,
-    // The file of a command on this line ended at `got`, before the length that it had.
+    /// The file of a command on this line ended at `got`, before the length `said` that it had, both in bytes.
     Changed { line: u32, said: u64, got: u64 },
 }
 

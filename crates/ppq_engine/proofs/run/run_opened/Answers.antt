@@ -18,7 +18,7 @@ returns-in-Ok-put-clause-ends g c = let w = words g.R.PartialEq g.R.PartialOrd g
     let told = g.O.Sink.told in
     let put = g.O.Sink.faults in
     let faults = g.L.Library.faults in
-    let script = c.args.world.now.script.now in
+    let script = c.args.script.now in
     let run = c.run-machine in
     let ok : (A : Type 0) → OnOk run.result.1 A → A = λ A h. at-ok run.result.1 c.in-Ok.field-0 A c.in-Ok.is h in
     let runs = ok (RunsAll w c.args.world.now.form (g.L.Library.told c.args.library.now) script c.args.queue run.result.0.queue (told c.args.out.now) (told run.new.out) run.result.0.desk.gathered) run.ensures.runs in
@@ -43,7 +43,7 @@ pub returns-in-Ok-clause-ends : goal.returns-in-Ok-clause-ends
 returns-in-Ok-clause-ends g c = let w = words g.R.PartialEq g.R.PartialOrd g.R.Ord g.R.Record g.R.Fields in
     let told = g.O.Sink.told in
     let put = g.O.Sink.faults in
-    let script = c.args.world.now.script.now in
+    let script = c.args.script.now in
     let run = c.run-machine in
     let ok : (A : Type 0) → OnOk run.result.1 A → A = λ A h. at-ok run.result.1 c.in-Ok.field-0 A c.in-Ok.is h in
     let runs = ok (RunsAll w c.args.world.now.form (g.L.Library.told c.args.library.now) script c.args.queue run.result.0.queue (told c.args.out.now) (told run.new.out) run.result.0.desk.gathered) run.ensures.runs in
@@ -59,7 +59,7 @@ returns-clause-ends g c = let w = words g.R.PartialEq g.R.PartialOrd g.R.Ord g.R
     let faults = g.O.Sink.faults in
     let library = g.L.Library.faults in
     let files = g.L.Library.told c.args.library.now in
-    let script = c.args.world.now.script.now in
+    let script = c.args.script.now in
     let queue = c.args.queue in
     let stop = c.in-Err.stop in
     let run = c.run-machine in
@@ -88,14 +88,14 @@ returns-in-Ok-clause-library g c = library-stays c.run-machine.ensures.library
 pub returns-in-Ok-put-clause-transfers : goal.returns-in-Ok-put-clause-transfers
 returns-in-Ok-put-clause-transfers g c = let w = words g.R.PartialEq g.R.PartialOrd g.R.Ord g.R.Record g.R.Fields in
     let k = c.known-2.ensures in
-    transfers-few w (command_list c.args.world.now.script.now) c.args.queue.sizes c.run-machine.result.0.queue k.range c.run-machine.ensures.counted k.transfers k.read
+    transfers-few w (command_list c.args.script.now) c.args.queue.sizes c.run-machine.result.0.queue k.range c.run-machine.ensures.counted k.transfers k.read
 
 pub returns-in-Ok-clause-transfers : goal.returns-in-Ok-clause-transfers
 returns-in-Ok-clause-transfers g c = let w = words g.R.PartialEq g.R.PartialOrd g.R.Ord g.R.Record g.R.Fields in
     let k = c.known-2.ensures in
-    transfers-few w (command_list c.args.world.now.script.now) c.args.queue.sizes c.run-machine.result.0.queue k.range c.run-machine.ensures.counted k.transfers k.read
+    transfers-few w (command_list c.args.script.now) c.args.queue.sizes c.run-machine.result.0.queue k.range c.run-machine.ensures.counted k.transfers k.read
 
 pub returns-clause-transfers : goal.returns-clause-transfers
 returns-clause-transfers g c = let w = words g.R.PartialEq g.R.PartialOrd g.R.Ord g.R.Record g.R.Fields in
     let k = c.known-2.ensures in
-    transfers-few w (command_list c.args.world.now.script.now) c.args.queue.sizes c.run-machine.result.0.queue k.range c.run-machine.ensures.counted k.transfers k.read
+    transfers-few w (command_list c.args.script.now) c.args.queue.sizes c.run-machine.result.0.queue k.range c.run-machine.ensures.counted k.transfers k.read

@@ -32,7 +32,7 @@ run_limit-requires-clause-lines g c κs within = let w = words g.R.PartialEq g.R
 
 pub returns-in-Bulk : goal.returns-in-Bulk
 returns-in-Bulk g c = let w = words g.R.PartialEq g.R.PartialOrd g.R.Ord g.R.Record g.R.Fields in
-    let script = c.args.world.now.script.now in
+    let script = c.args.script.now in
     let put = g.O.Sink.told c.args.out.now in
     let files = g.L.Library.told c.args.library.now in
     let replied = g.L.Library.replied c.args.library.now in
@@ -41,14 +41,14 @@ returns-in-Bulk g c = let w = words g.R.PartialEq g.R.PartialOrd g.R.Ord g.R.Rec
     let b = c.run_bulk.ensures in
     let Going : Part g.row.R.Denot → Type 0 = λ p. Goes w c.args.world.now.form files script (first_in p) (commands_in p) put put c.args.self.queue new.queue c.args.self.desk.gathered new.desk.gathered r in
     record {
-      goes = subst Going (sym c.in-Bulk.is) (b.goes c.args.world.now.form files put);
+      goes = subst Going (sym c.in-Bulk.is) (b.goes c.args.world.now.form files script put);
       library = library-unasked files replied script (g.L.Library.faults c.args.library.now) r (IfErr-weaker r IsBySession IsByLimit session-by_limit b.by_session);
       sink = adds-sink (g.O.Sink.faults c.args.out.now) r (IfErr-weaker r IsBySession IsByFile session_by_file b.by_session);
     }
 
 pub returns-in-Limit : goal.returns-in-Limit
 returns-in-Limit g c = let w = words g.R.PartialEq g.R.PartialOrd g.R.Ord g.R.Record g.R.Fields in
-    let script = c.args.world.now.script.now in
+    let script = c.args.script.now in
     let told = g.O.Sink.told in
     let files = g.L.Library.told c.args.library.now in
     let replied = g.L.Library.replied c.args.library.now in
@@ -57,18 +57,18 @@ returns-in-Limit g c = let w = words g.R.PartialEq g.R.PartialOrd g.R.Ord g.R.Re
     let b = c.run_limit.ensures in
     let Going : Part g.row.R.Denot → Type 0 = λ p. Goes w c.args.world.now.form files script (first_in p) (commands_in p) (told c.args.out.now) (told c.run_limit.new.out) c.args.self.queue new.queue c.args.self.desk.gathered new.desk.gathered r in
     record {
-      goes = subst Going (sym c.in-Limit.is) (b.goes files);
+      goes = subst Going (sym c.in-Limit.is) (b.goes files script);
       library = library-unasked files replied script (g.L.Library.faults c.args.library.now) r b.by_limit;
       sink = b.sink;
     }
 
 pub push_file-requires-clause-turn : goal.push_file-requires-clause-turn
 push_file-requires-clause-turn g c κs within = let w = words g.R.PartialEq g.R.PartialOrd g.R.Ord g.R.Record g.R.Fields in
-    subst (λ (k : Command g.row.R.Denot). IsTurn w c.args.world.now.script.now c.args.self.queue c.args.place (One k)) c.in-Bulk-command.is (subst (IsTurn w c.args.world.now.script.now c.args.self.queue c.args.place) c.in-One.is c.requires.turn)
+    subst (λ (k : Command g.row.R.Denot). IsTurn w c.args.script.now c.args.self.queue c.args.place (One k)) c.in-Bulk-command.is (subst (IsTurn w c.args.script.now c.args.self.queue c.args.place) c.in-One.is c.requires.turn)
 
 pub returns-in-Bulk-command : goal.returns-in-Bulk-command
 returns-in-Bulk-command g c = let w = words g.R.PartialEq g.R.PartialOrd g.R.Ord g.R.Record g.R.Fields in
-    let script = c.args.world.now.script.now in
+    let script = c.args.script.now in
     let put = g.O.Sink.told c.args.out.now in
     let files = g.L.Library.told c.args.library.now in
     let new = c.push_file.result.0 in
@@ -80,7 +80,7 @@ returns-in-Bulk-command g c = let w = words g.R.PartialEq g.R.PartialOrd g.R.Ord
 
 pub returns-in-Gen : goal.returns-in-Gen
 returns-in-Gen g c = let w = words g.R.PartialEq g.R.PartialOrd g.R.Ord g.R.Record g.R.Fields in
-    let script = c.args.world.now.script.now in
+    let script = c.args.script.now in
     let put = g.O.Sink.told c.args.out.now in
     let files = g.L.Library.told c.args.library.now in
     let replied = g.L.Library.replied c.args.library.now in
@@ -90,7 +90,7 @@ returns-in-Gen g c = let w = words g.R.PartialEq g.R.PartialOrd g.R.Ord g.R.Reco
     let Going : Command g.row.R.Denot → Type 0 = λ k. Goes w c.args.world.now.form files script k (k ∷ []) put put c.args.self.queue new.queue c.args.self.desk.gathered new.desk.gathered r in
     let Whole : Part g.row.R.Denot → Type 0 = λ p. Goes w c.args.world.now.form files script (first_in p) (commands_in p) put put c.args.self.queue new.queue c.args.self.desk.gathered new.desk.gathered r in
     record {
-      goes = subst Whole (sym c.in-One.is) (subst Going (sym c.in-Gen.is) (b.goes c.args.world.now.form files put));
+      goes = subst Whole (sym c.in-One.is) (subst Going (sym c.in-Gen.is) (b.goes c.args.world.now.form files script put));
       library = library-unasked files replied script (g.L.Library.faults c.args.library.now) r (IfErr-weaker r IsBySession IsByLimit session-by_limit b.by_session);
       sink = adds-sink (g.O.Sink.faults c.args.out.now) r (IfErr-weaker r IsBySession IsByFile session_by_file b.by_session);
     }
@@ -103,7 +103,7 @@ lend-done-requires-clause-lends g c = let w = words g.R.PartialEq g.R.PartialOrd
 
 pub returns-in_default : goal.returns-in_default
 returns-in_default g c = let w = words g.R.PartialEq g.R.PartialOrd g.R.Ord g.R.Record g.R.Fields in
-    let script = c.args.world.now.script.now in
+    let script = c.args.script.now in
     let k = c.in-One.command in
     let told = g.O.Sink.told in
     let files = g.L.Library.told c.args.library.now in

@@ -26,7 +26,7 @@ load_file-queue-requires-clause-long g c = λ lives fits files tells.
 
 pub returns : goal.returns
 returns g c = let w = words g.R.PartialEq g.R.PartialOrd g.R.Ord g.R.Record g.R.Fields in
-    let script = c.args.world.now.script.now in
+    let script = c.args.script.now in
     let place = c.args.place in
     let queue = c.args.self.queue in
     let had = c.args.self.desk.gathered in

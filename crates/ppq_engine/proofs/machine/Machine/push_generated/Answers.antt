@@ -18,7 +18,6 @@ use Rattle.ppq_engine.proofs.machine.Machine.push_generated.Goals as goal
 
 pub returns : goal.returns
 returns g c = let w = words g.R.PartialEq g.R.PartialOrd g.R.Ord g.R.Record g.R.Fields in
-    let script = c.args.world.now.script.now in
     let queue = c.args.self.queue in
     let had = c.args.self.desk.gathered in
     let count = c.args.count in
@@ -34,7 +33,7 @@ returns g c = let w = words g.R.PartialEq g.R.PartialOrd g.R.Ord g.R.Record g.R.
     let why = if-err-both r Why IsBySession (loaded-refused 0 0 q.result.1 r same (max queue.peak (queue.size + count)) queue.sizes queue.limited new.slots q.ensures.refused) by in
     record {
       goes =
-          λ form files put.
+          λ form files script put.
           turn-goes w form files script queue.sizes.workers k (record { stands = refl; stays = refl }) queue new put put had had r (adds-prints queue.slots put had [] r refl (IfErr-weaker r IsBySession IsByFile session_by_file by)) q.ensures.kept (few-to queue new q.result.1 r (loaded-ok 0 0 q.result.1 r same) q.ensures.counted)
           (on-ok-map r (Loaded × Adds queue new count) (RunsStep w files script queue new k) (λ both. adds-runs w k (λ leaves. refl) (λ tells given are. both.0 tells) both.1) adds)
           (IfErr-weaker r (λ stop. Why stop × IsBySession stop) (StopsStep w queue new k)

@@ -40,16 +40,16 @@ commands-init g c = let w = words g.R.PartialEq g.R.PartialOrd g.R.Ord g.R.Recor
     record {
       run =
           λ tells files are.
-          run-begin w laws c.args.world.now.form (given_of w files c.args.world.now.script.now) (g.O.Sink.told c.args.out.now) c.args.self.desk.gathered queue.bag queue.size queue.peak queue.sizes queue.slots (command_list c.args.world.now.script.now) c.requires.gathered c.requires.may.bag c.requires.may.size c.requires.may.peak;
-      has = sizes-begin w queue.size queue.peak queue.sizes queue.slots (command_list c.args.world.now.script.now) c.requires.may.size c.requires.may.peak;
+          run-begin w laws c.args.world.now.form (given_of w files c.args.script.now) (g.O.Sink.told c.args.out.now) c.args.self.desk.gathered queue.bag queue.size queue.peak queue.sizes queue.slots (command_list c.args.script.now) c.requires.gathered c.requires.may.bag c.requires.may.size c.requires.may.peak;
+      has = sizes-begin w queue.size queue.peak queue.sizes queue.slots (command_list c.args.script.now) c.requires.may.size c.requires.may.peak;
       closed = refl {a = Outside};
       within = omega arith;
       in_place = (c.checked.ensures.ready (c.checked.ensures.checked ∙ c.requires.may.checked)).in_place;
       sound = c.requires.may.sound;
       quiet = refl;
-      kept = Keeps-none queue queue (take 0 (command_list c.args.world.now.script.now)) refl (Keeps-refl queue);
-      counted = counted-begin w queue (command_list c.args.world.now.script.now) c.requires.may.counts c.requires.may.in_heap;
-      library = library-none told (g.L.Library.replied c.args.library.now) c.args.world.now.script.now (g.L.Library.faults c.args.library.now);
+      kept = Keeps-none queue queue (take 0 (command_list c.args.script.now)) refl (Keeps-refl queue);
+      counted = counted-begin w queue (command_list c.args.script.now) c.requires.may.counts c.requires.may.in_heap;
+      library = library-none told (g.L.Library.replied c.args.library.now) c.args.script.now (g.L.Library.faults c.args.library.now);
       library_stays = refl;
       stays = refl;
     }
@@ -73,7 +73,7 @@ pub returns-in-Err-clause-stopped : goal.returns-in-Err-clause-stopped
 returns-in-Err-clause-stopped g c = let w = words g.R.PartialEq g.R.PartialOrd g.R.Ord g.R.Record g.R.Fields in let laws = laws_of w c.record_laws.ensures.order c.record_laws.ensures.same in
     let told = g.L.Library.told c.args.library.now in
     let sink = g.O.Sink.told in
-    let script = c.args.world.now.script.now in
+    let script = c.args.script.now in
     let commands = command_list script in
     let queue = c.commands.machine.queue in
     let sizes = c.args.self.queue.sizes in
@@ -102,7 +102,7 @@ returns-in-Err-clause-slots g c = SameSlots-trans c.args.self.queue.slots c.comm
 
 pub returns-in-Err-clause-counted : goal.returns-in-Err-clause-counted
 returns-in-Err-clause-counted g c = let w = words g.R.PartialEq g.R.PartialOrd g.R.Ord g.R.Record g.R.Fields in
-    let commands = command_list c.args.world.now.script.now in
+    let commands = command_list c.args.script.now in
     let i = c.commands.place in
     let part = commands_in c.part-part.result in
     let a = c.advance-back in
@@ -137,8 +137,8 @@ pub overflow_add-place : goal.overflow_add-place
 overflow_add-place g c =
     let i = c.commands.place in
     let p = c.part-part.result in
-    let here : i < length c.args.world.now.script.now.commands = omega (arith, c.commands-test.true, c.len.ensures) in
-    Fits-of_lt (omega (arith, c.count-count.ensures, within_script c.args.world.now.script.now i (commands_in p) c.part-part.ensures.part.whole here, c.len.ensures))
+    let here : i < length c.args.script.now.commands = omega (arith, c.commands-test.true, c.len.ensures) in
+    Fits-of_lt (omega (arith, c.count-count.ensures, within_script c.args.script.now i (commands_in p) c.part-part.ensures.part.whole here, c.len.ensures))
 
 pub commands-smaller : goal.commands-smaller
 commands-smaller g c = omega (arith, c.commands-test.true, c.len.ensures, c.count-count.ensures, some_command c.part-part.result)
@@ -147,7 +147,7 @@ pub commands-preserved : goal.commands-preserved
 commands-preserved g c = let w = words g.R.PartialEq g.R.PartialOrd g.R.Ord g.R.Record g.R.Fields in let laws = laws_of w c.record_laws.ensures.order c.record_laws.ensures.same in
     let told = g.L.Library.told in
     let sink = g.O.Sink.told in
-    let script = c.args.world.now.script.now in
+    let script = c.args.script.now in
     let commands = command_list script in
     let queue = c.commands.machine.queue in
     let new = c.advance-back.result.0.queue in
@@ -204,7 +204,7 @@ all_run script place h = take_all place (command_list script) (omega (arith, h, 
 
 pub returns-clause-runs : goal.returns-clause-runs
 returns-clause-runs g c = let w = words g.R.PartialEq g.R.PartialOrd g.R.Ord g.R.Record g.R.Fields in
-    let script = c.args.world.now.script.now in
+    let script = c.args.script.now in
     let sizes = c.args.self.queue.sizes in
     let slots = c.commands.machine.queue.slots in
     let v = c.commands.invariant in
@@ -221,7 +221,7 @@ returns-clause-runs g c = let w = words g.R.PartialEq g.R.PartialOrd g.R.Ord g.R
 
 pub returns-clause-counted : goal.returns-clause-counted
 returns-clause-counted g c = let w = words g.R.PartialEq g.R.PartialOrd g.R.Ord g.R.Record g.R.Fields in
-    let script = c.args.world.now.script.now in
+    let script = c.args.script.now in
     let v = c.commands.invariant in
     let all = all_run script c.commands.place (omega (arith, c.commands-test.false, c.len.ensures)) in
     counted-all w c.commands.machine.queue (take c.commands.place (command_list script)) (command_list script) c.args.self.queue.sizes all v.kept.sizes v.counted

@@ -25,7 +25,7 @@ new-requires g c = omega (arith, c.room.ensures, c.args.self.round, batch_some c
 pub returns-in_default : goal.returns-in_default
 returns-in_default g c = let w = words g.R.PartialEq g.R.PartialOrd g.R.Ord g.R.Record g.R.Fields in let laws = laws_of w c.record_laws.ensures.order c.record_laws.ensures.same in
     let queue = c.args.self.queue in
-    bulk-stopped w laws c.args.world.now.script.now queue.sizes.workers (commands_of c.args.lines.now) c.requires.lines queue queue c.args.self.desk.gathered Memory tt tt tt (Keeps-refl queue) 0 (omega arith) (few-more 0 0 0 1 queue queue unrefused (omega arith) (omega arith) (few-none queue))
+    bulk-stopped w laws queue.sizes.workers (commands_of c.args.lines.now) c.requires.lines queue queue c.args.self.desk.gathered Memory tt tt tt (Keeps-refl queue) 0 (omega arith) (few-more 0 0 0 1 queue queue unrefused (omega arith) (omega arith) (few-none queue))
 
 pub push_all-requires-clause-lines : goal.push_all-requires-clause-lines
 push_all-requires-clause-lines g c κs within = let w = words g.R.PartialEq g.R.PartialOrd g.R.Ord g.R.Record g.R.Fields in
@@ -51,7 +51,7 @@ returns-in-Ok-begin g c = let w = words g.R.PartialEq g.R.PartialOrd g.R.Ord g.R
     let session = gives.pushing.session queue c.in-Ok-begin.ensures.session in
     let loaded = end.ensures.loaded queue (pushed_in gives.pushing.given) session in
     let P : List (Command g.row.R.Denot) → Type 0 = λ cs. IsLoaded queue (pushed_in cs) new end.result.1 in
-    bulk-ended w laws c.args.world.now.script.now queue.sizes.workers body c.requires.lines queue new c.args.self.desk.gathered _ end.result.1 c.ended.result c.ended.ensures
+    bulk-ended w laws queue.sizes.workers body c.requires.lines queue new c.args.self.desk.gathered _ end.result.1 c.ended.result c.ended.ensures
     (on-ok-map end.result.1 (All IsGoing mid.passes) (P body) (λ going. subst P (given-all shown body begun mid gives going) loaded) end.ensures.all)
     (pushed_in gives.pushing.given) (given-some shown body begun mid gives) (omega (arith, c.known.ensures.range.two_records)) loaded
     (session-quiet shown queue (pushed_in gives.pushing.given) mid new end.result.1 session end.ensures.left)
@@ -62,5 +62,5 @@ returns g c = let w = words g.R.PartialEq g.R.PartialOrd g.R.Ord g.R.Record g.R.
     let body = commands_of c.args.lines.now in
     let most = max queue.peak (queue.size + length (pushed_in body)) in
     let back = unbegun-stop queue queue c.in-Err.queue most c.in-Err.fault c.from.result refl (omega (arith, c.known.ensures.range.two_records)) (omega arith) c.from.ensures c.in-Err.ensures.refused in
-    bulk-stopped w laws c.args.world.now.script.now queue.sizes.workers body c.requires.lines queue c.in-Err.queue c.args.self.desk.gathered c.from.result back.by_session back.refused back.quiet back.kept
+    bulk-stopped w laws queue.sizes.workers body c.requires.lines queue c.in-Err.queue c.args.self.desk.gathered c.from.result back.by_session back.refused back.quiet back.kept
     0 (omega arith) (few-begun queue c.in-Err.queue unrefused back.kept.sizes back.counted)

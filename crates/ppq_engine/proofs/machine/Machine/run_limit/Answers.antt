@@ -27,7 +27,7 @@ returns-in_default g c = let w = words g.R.PartialEq g.R.PartialOrd g.R.Ord g.R.
     let told = g.O.Sink.told c.args.out.now in
     let had = c.args.self.desk.gathered in
     record {
-      goes = limit-goes w c.args.world.now.form c.args.world.now.script.now c.args.limit (commands_of c.args.lines.now) queue queue told told had had _ tt tt (λ tells. gathers-nothing told had) tt (SameSlots-refl queue.slots) refl 0 (omega arith) (few-to queue queue unrefused _ (λ A holds. tt) (few-more 0 0 0 1 queue queue unrefused (omega arith) (omega arith) (few-none queue)));
+      goes = limit-goes w c.args.world.now.form c.args.limit (commands_of c.args.lines.now) queue queue told told had had _ tt tt (λ tells. gathers-nothing told had) tt (SameSlots-refl queue.slots) refl 0 (omega arith) (few-to queue queue unrefused _ (λ A holds. tt) (few-more 0 0 0 1 queue queue unrefused (omega arith) (omega arith) (few-none queue)));
       by_limit = tt;
       sink = record { later = omega arith; stays = tt; cause = refl };
     }
@@ -65,7 +65,6 @@ invariant_of-result-in-Ok-begin g c = let w = words g.R.PartialEq g.R.PartialOrd
 pub returns-in-Ok-begin : goal.returns-in-Ok-begin
 returns-in-Ok-begin g c = let w = words g.R.PartialEq g.R.PartialOrd g.R.Ord g.R.Record g.R.Fields in let laws = laws_of w c.record_laws.ensures.order c.record_laws.ensures.same in
     let shown = g.S.Slot.shown in
-    let script = c.args.world.now.script.now in
     let limit = c.args.limit in
     let queue = c.args.self.queue in
     let before = g.O.Sink.told c.args.out.now in
@@ -93,7 +92,7 @@ returns-in-Ok-begin g c = let w = words g.R.PartialEq g.R.PartialOrd g.R.Ord g.R
     let given = ended-given w laws shown c.args.world.now.form queue before now had has mid queue.sizes.workers limit lines are old new printed over run in
     record {
       goes =
-          limit-goes w c.args.world.now.form script limit lines queue new before now had has s (ended-runs w laws shown c.args.world.now.form queue before now had has mid queue.sizes.workers limit lines are old new printed over s e run script) (ended-by_limit printed over s e)
+          limit-goes w c.args.world.now.form limit lines queue new before now had has s (ended-runs w laws shown c.args.world.now.form queue before now had has mid queue.sizes.workers limit lines are old new printed over s e run) (ended-by_limit printed over s e)
           (ended-stopped w laws shown c.args.world.now.form queue before now had has mid queue.sizes.workers limit lines are old new printed over s e run)
           (ended-quiet w laws shown c.args.world.now.form queue before now had has mid queue.sizes.workers limit lines are old new printed over s e run) kept.slots kept.sizes
           (length (pushed_in given)) (ended-few w laws shown c.args.world.now.form queue before now had has mid queue.sizes.workers limit lines are old new printed over run)
@@ -116,7 +115,7 @@ returns g c = let w = words g.R.PartialEq g.R.PartialOrd g.R.Ord g.R.Record g.R.
     let by_limit = session-by_limit stop back.by_session in
     let stopped = begin-stopped w c.args.world.now.form told had queue new.slots c.args.limit body stop some back.refused back.by_session in
     record {
-      goes = limit-goes w c.args.world.now.form c.args.world.now.script.now c.args.limit body queue new told told had had _ tt by_limit stopped back.quiet back.kept.slots back.kept.sizes
+      goes = limit-goes w c.args.world.now.form c.args.limit body queue new told told had had _ tt by_limit stopped back.quiet back.kept.slots back.kept.sizes
           0 (omega arith) (few-begun queue new _ back.kept.sizes back.counted);
       by_limit = by_limit;
       sink = record { later = omega arith; stays = tt; cause = file_unput faults stop (session_by_file stop back.by_session) };
