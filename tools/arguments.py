@@ -18,11 +18,13 @@ NUMBERS = {
 }
 BUDGETS = ("--memory", "--memory-bytes")
 SIZES = ("--device", "--blocks", "--workers", "--block", "--heap")
-# Each command with what its file is, and the options that it has beside the sizes: those that must stand, and others.
+# Each command with what its file is, if it has one, and the options that it has beside the sizes: those that must stand, and
+# others.
 COMMANDS = {
     "run": ("SCRIPT", (), ("--form",)),
     "sim": ("AGENDA", ("--until", "--events"), ()),
     "sweep": ("EDGES", ("--nodes",), ()),
+    "serve": (None, (), ()),
 }
 FILE = ""  # the name under which the values have the file
 
@@ -60,6 +62,11 @@ def use_fault(name, value, values):
     return None
 
 
+def lacks_file(arguments):
+    """Whether a command has no file and should."""
+    return COMMANDS[arguments.command][0] is not None and FILE not in arguments.values
+
+
 def is_text(word):
     """Whether a word is UTF-8 text."""
     try:
@@ -82,6 +89,8 @@ def split(words):
         name, equals, value = word.partition("=") if word.startswith("-") else (FILE, "=", word)
         if name not in (FILE, *options_of(command)):
             return Arguments(command, values, f"{shown(name)} is no option of `ppq {command}`")
+        if name == FILE and COMMANDS[command][0] is None:
+            return Arguments(command, values, f"{shown(value)} is one word too many: `ppq {command}` has no file")
         value = value if equals else rest.pop(0) if rest else None
         fault = use_fault(name, value, values)
         if fault:
@@ -120,7 +129,7 @@ def fault_of(arguments):
     """Returns what is wrong with arguments, or None."""
     if arguments.fault:
         return arguments.fault
-    if FILE not in arguments.values:
+    if lacks_file(arguments):
         return f"{COMMANDS[arguments.command][0]} is missing"
     if all(it in arguments.values for it in BUDGETS):
         return "--memory and --memory-bytes are both there, and one alone may be"

@@ -92,8 +92,10 @@ def refusal_of(words):
     fault = arguments.fault_of(given)
     if fault:
         return USAGE, fault
-    name = given.values[arguments.FILE]
-    if given.command == "run":
+    name = given.values.get(arguments.FILE)
+    if given.command == "serve":
+        refusal = None
+    elif given.command == "run":
         refusal = script_refusal(given, name)
     elif given.command == "sim":
         refusal = records_refusal(name, "triple", NO_FILE, BAD_AGENDA)
@@ -105,6 +107,8 @@ def refusal_of(words):
 
 def files_of(given):
     """Returns the files that a command reads."""
+    if given.command == "serve":
+        return []
     name = given.values[arguments.FILE]
     return [name, *(it.file for it in sizes.read_script(name).commands if it.file)] if given.command == "run" else [name]
 
@@ -149,7 +153,9 @@ def block_fault(given):
 
 
 def room_fault(given):
-    """Returns how many blocks would do where none was free."""
+    """Returns how many blocks would do where none was free. How many records a server got, its client knows alone."""
+    if given.command == "serve":
+        return "the client pushed more records than the device has room for; `./ppq sizes LOAD` says what a load wants"
     asked = with_sizes(given)
     if asked.fits(asked.block):
         return None

@@ -12,8 +12,9 @@ On standard error it says how large the device gets, and what the budget holds.
 
     tools/sizes.py fill WORDS..
 
-prints the words of the program, each with a zero byte after it, and behind them those sizes that `run`, `sim` or `sweep`
-lacks. It says on standard error what it took. Words that the program refuses stay as they are.
+prints the words of the program, each with a zero byte after it, and behind them those sizes that `run`, `sim`, `sweep` or
+`serve` lacks. It says on standard error what it took. Words that the program refuses stay as they are. The words of `serve`
+may have `--load LOAD`, which the program does not get; 16M is taken if it is left out.
 """
 import argparse
 import os
@@ -31,6 +32,7 @@ MOST_POOL = 65_536  # buffers
 MOST_CHOSEN_WORKERS = 4  # more were not measured
 BLOCK, SLOW_BLOCK = 4096, 8192  # records of a block to begin with
 DEVICE = "ppq.device"
+SERVED = "16M"  # the load of a server if none is said
 
 
 def room(load, workers, block):
@@ -222,13 +224,15 @@ def workers_of_script(script):
 
 
 def width_of(given):
-    """Returns the bytes of a record of a command."""
-    kinds = {"sim": "triple", "sweep": "pair"}
+    """Returns the bytes of a record of a command; what those of a server are its client says later."""
+    kinds = {"sim": "triple", "sweep": "pair", "serve": "pair"}
     return 8 * KINDS[kinds.get(given.command) or read_script(given.values[arguments.FILE]).kind]
 
 
-def needs_of(given):
-    """Returns the load of a command, and the workers that suit it."""
+def needs_of(given, load=None):
+    """Returns the load of a command, and the workers that suit it. That of a server is handed in."""
+    if given.command == "serve":
+        return load_of(SERVED) if load is None else load, 1
     file = given.values[arguments.FILE]
     if given.command == "run":
         script = read_script(file)
@@ -240,22 +244,39 @@ def needs_of(given):
     return records, cores()
 
 
-def of_arguments(given, names):
+def of_arguments(given, names, load=None):
     """Returns sizes for a command: those of its arguments that have these names, and the others as they suit it."""
-    load, workers = needs_of(given)
+    load, workers = needs_of(given, load)
     known = {it[2:]: given.number(it) for it in names}
     if "memory-bytes" in known:
         known["memory"] = known.pop("memory-bytes") // width_of(given)
     return Sizes(load, known, workers, 2 if given.command == "sweep" else 1)
 
 
-def filled(words):
+def without_load(words):
+    """Returns the words of a server without --load, and what that is, if it is there."""
+    kept, load = [], None
+    rest = iter(words if words[:1] == ["serve"] else ())
+    for word in rest:
+        name, equals, value = word.partition("=")
+        if name != "--load":
+            kept.append(word)
+            continue
+        try:
+            load = load_of(value if equals else next(rest, ""))
+        except argparse.ArgumentTypeError as fault:
+            print(f"ppq: why: --load: {fault}", file=sys.stderr)
+            sys.exit(2)
+    return (kept, load) if kept else (words, None)
+
+
+def filled(words, load=None):
     """Returns the program's words with the sizes that are missing."""
     given = arguments.split(words)
-    lacking = [] if given.fault or arguments.FILE not in given.values else arguments.missing(given)
+    lacking = [] if given.fault or arguments.lacks_file(given) else arguments.missing(given)
     if not {*lacking} & {*arguments.SIZES, "--memory"} or any(arguments.value_fault(*it) for it in given.values.items()):
         return words
-    chosen = of_arguments(given, [it for it in (*arguments.SIZES[1:], *arguments.BUDGETS) if it in given.values])
+    chosen = of_arguments(given, [it for it in (*arguments.SIZES[1:], *arguments.BUDGETS) if it in given.values], load)
     if chosen.fault():
         print(f"ppq: this may not do: {chosen.fault()}", file=sys.stderr)
     device = ["--device", DEVICE] if "--device" in lacking else []
@@ -265,8 +286,8 @@ def filled(words):
 def main():
     if sys.argv[1:2] != ["fill"]:
         return print_sizes(sys.argv[1:])
-    words = sys.argv[2:]
-    full = filled(words)
+    words, load = without_load(sys.argv[2:])
+    full = filled(words, load)
     if full != words:
         print("ppq: with the sizes that suit it:", shlex.join(["./ppq", *full]), file=sys.stderr)
     sys.stdout.buffer.write(b"".join(os.fsencode(it) + b"\0" for it in full))

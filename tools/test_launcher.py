@@ -23,8 +23,9 @@ class Launcher(unittest.TestCase):
         self.addCleanup(folder.cleanup)
         self.top = pathlib.Path(folder.name) / "top"
         self.here = pathlib.Path(folder.name) / "here"
-        self.program = self.top / "crates" / "ppq" / "out" / "ppq"
-        self.program.parent.mkdir(parents=True)
+        self.program, self.server = (self.top / "crates" / it / "out" / it for it in ("ppq", "ppq_serve"))
+        for program in self.program, self.server:
+            program.parent.mkdir(parents=True)
         self.here.mkdir()
         for name in "ppq", "CHANGELOG.md", "README.md", "crates.txt":
             shutil.copy(TOP / name, self.top)
@@ -33,9 +34,10 @@ class Launcher(unittest.TestCase):
         (self.here / "s.ppq").write_text("pop\n")
 
     def put(self, text):
-        """Makes this the program."""
-        self.program.write_text(text)
-        self.program.chmod(0o755)
+        """Makes this both programs."""
+        for program in self.program, self.server:
+            program.write_text(text)
+            program.chmod(0o755)
 
     def put_rt(self, status=1):
         """Puts a command `rt` on the path, which notes how it was called, and ends with a status."""
@@ -84,6 +86,29 @@ class Launcher(unittest.TestCase):
         (self.top / "crates" / "ppq" / "src").mkdir()
         os.utime(self.program, (0, 0))
         self.assertIn("built before the last change", self.call("--version")[1])
+
+        self.server.unlink()
+        self.assertIn(", not built: ", self.call("--version")[1])
+
+    def test_serves_with_the_sizes_that_suit_a_load(self):
+        sizes = "--device ppq.device --blocks 80 --workers 1 --block 2 --heap 1 --memory 476"
+        for load in ["--load", "4"], ["--load=4"]:
+            status, printed, said = self.call("serve", *load, "--block", "2", "--heap", "1")
+            chosen = "--block 2 --heap 1 --device ppq.device --blocks 80 --workers 1 --memory 476"
+            self.assertEqual((status, printed, said), (0, f"{chosen}\n", f"ppq: with the sizes that suit it: ./ppq serve {chosen}\n"))
+        for load in [], ["--load", "4"]:
+            self.assertEqual(self.call("serve", *load, *sizes.split()), (0, f"{sizes}\n", ""))
+        self.assertIn("--blocks 7890 ", self.call("serve")[1])
+
+    def test_says_why_a_server_ended(self):
+        self.put("#!/bin/sh\necho 'ppq-serve: no free block' >&2\nexit 6\n")
+        said = self.call("serve", "--load", "4K")[2].splitlines()
+        self.assertEqual(said[1], "ppq-serve: no free block")
+        self.assertRegex(said[2], "^ppq: why: the client pushed more records")
+        self.assertEqual(self.call("serve", "--load", "x")[0], 2)
+        self.assertEqual(self.call("try", "serve")[0], 2)
+        self.program.unlink()
+        self.assertRegex(self.call("serve", "s.ppq")[2], "one word too many: `ppq serve` has no file\nppq: so nothing is built")
 
     def test_refuses_before_it_builds_or_tries(self):
         self.program.unlink()

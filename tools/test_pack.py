@@ -75,9 +75,15 @@ class Pack(unittest.TestCase):
         self.call("tools/records.py", "from-text", "pair", "edges.bin", given="0 1\n0 2\n1 2\n")
         self.assertEqual(self.call("./ppq", "sweep", "edges.bin", *SIZES, "--nodes", "3"), (0, "0 0\n1 1\n2 2\n", ""))
 
+    def test_serves(self):
+        client = "from ppq_client import Queue\nwith Queue(['./ppq', 'serve', '--load', '1K']) as it:\n    it.push(5, 1)\n    print(it.pop())\n"
+        (self.packed / "clients/python/try.py").write_text(client)
+        status, printed, said = self.call(sys.executable, "-B", "clients/python/try.py")
+        self.assertEqual((status, printed), (0, "(5, 1)\n"), said)
+
     def test_runs_the_examples(self):
         for script in sorted(self.packed.glob("examples/*.sh")):
-            arguments = [] if script.name in ("frames.sh", "record-files.sh") else ["2000"]
+            arguments = [] if script.name in ("frames.sh", "record-files.sh", "serve.sh") else ["2000"]
             status, _, said = self.call(script, *arguments)
             self.assertEqual(status, 0, f"{script.name}: {said}")
 
