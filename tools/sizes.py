@@ -1,5 +1,5 @@
 #!/usr/bin/env python3
-"""Chooses sizes by the README ("Choosing sizes") and the formulas of docs/storage.md.
+"""Chooses sizes by docs/choosing-sizes.md and the formulas of docs/storage.md.
 
     tools/sizes.py LOAD [--workers P] [--block B] [--heap H] [--blocks D] [--memory M | --memory-bytes N] [--width W]
                    [--disk slow] [--queues 2]
