@@ -134,7 +134,8 @@ class Launcher(unittest.TestCase):
     def test_builds_where_nothing_is_refused(self):
         self.program.unlink()
         self.put_rt()
-        (self.top / "crates" / "ppq_fetch").mkdir()
+        for line in (self.top / "crates.txt").read_text().splitlines():
+            (self.top / "crates" / line.partition(":")[0].split(" ")[0]).mkdir(exist_ok=True)
         self.assertEqual([self.call(*words)[0] for words in (["build"], ["run", "s.ppq"])], [125, 125])
         self.assertTrue((self.top / "called").exists())
 

@@ -1,0 +1,174 @@
+#!/usr/bin/env python3
+"""Proves the crates below the programs and builds these, by `rt`: `./ppq build` calls it.
+
+    tools/build.py PROGRAM..
+
+PROGRAM is the crate of a program. A crate is proved once those that it uses are, side by side with others that wait for nobody
+either, and first those with the longest chain of others behind them; one that is alone gets all processors. Standard error says
+which are done. It ends with 125 if a crate is not proved or a program not built, and with 130 if it is interrupted.
+"""
+import collections
+import os
+import pathlib
+import signal
+import subprocess
+import sys
+import tempfile
+import time
+
+TOP = pathlib.Path(__file__).resolve().parent.parent
+CRATES = TOP / "crates"
+MEMORY_OF_A_JOB = 3_000_000  # KiB that the proof of a crate takes at most, or nearly, and not quite as much for each job more
+MOST_JOBS = 4  # of one crate
+NOT_BUILT, INTERRUPTED = 125, 130
+
+
+def uses():
+    """Returns the crates of the repository, each with those of them that it uses."""
+    rows = [it.partition("#")[0].partition(":") for it in (TOP / "crates.txt").read_text().splitlines()]
+    lists = {head.split()[0]: tail.split() for head, colon, tail in rows if colon}
+    return {name: [it for it in lists[name] if it in lists] for name in lists}
+
+
+def closure(names, lists):
+    """Returns these crates and all below them, the lowest first."""
+    found = {}
+
+    def visit(name):
+        if name not in found:
+            for it in lists[name]:
+                visit(it)
+            found[name] = None
+
+    for name in names:
+        visit(name)
+    return list(found)
+
+
+def lines_of(name):
+    """Returns about how many lines the proof of a crate has to read."""
+    files = [it for folder in ("src", "specs", "proofs") for it in (CRATES / name / folder).rglob("*") if it.is_file()]
+    return 1 + sum(it.read_bytes().count(b"\n") for it in files)
+
+
+def chains(names, lists):
+    """Returns for each crate the lines of the longest chain of crates that wait for it, itself among them."""
+    behind = collections.Counter()
+    for name in reversed(names):
+        behind[name] += lines_of(name)
+        for it in lists[name]:
+            behind[it] = max(behind[it], behind[name])
+    return behind
+
+
+def lanes():
+    """Returns how many jobs run at once: one a processor, as many as memory holds."""
+    with open("/proc/meminfo") as file:
+        free = next(int(it.split()[1]) for it in file if it.startswith("MemAvailable:"))
+    return max(1, min(len(os.sched_getaffinity(0)), free // MEMORY_OF_A_JOB))
+
+
+class Build:
+    """The crates that are to be proved, those that are being proved, and those that are."""
+
+    def __init__(self, programs):
+        self.programs = programs
+        self.lists = uses()
+        self.names = [it for it in closure(programs, self.lists) if it not in programs]
+        self.behind = chains(self.names, self.lists)
+        self.done, self.running = [], {}
+        self.begun, self.folder = time.monotonic(), tempfile.TemporaryDirectory()
+        self.text = "the programs are proved and built, which takes about an hour the first time"
+
+    def say(self, text=None):
+        """Says what is done: on a terminal in one line that is written again and again, elsewhere in a line of its own."""
+        self.text, is_new = text or self.text, text is not None
+        line = f"ppq: {self.text}, {int(time.monotonic() - self.begun) // 60} min"
+        if os.isatty(2):
+            os.write(2, f"\r\033[K{line}".encode())
+        elif is_new:
+            os.write(2, f"{line}\n".encode())
+
+    def start(self, name, words, jobs):
+        """Starts rt in the folder of a crate; what it writes goes to a file."""
+        with open(f"{self.folder.name}/{name}", "wb") as log:
+            process = subprocess.Popen(["rt", *words], cwd=CRATES / name, stdin=subprocess.DEVNULL, stdout=log, stderr=log, start_new_session=True)
+        self.running[name] = process, jobs
+
+    def said(self, name):
+        """Returns what rt wrote of a crate."""
+        return pathlib.Path(self.folder.name, name).read_bytes()
+
+    def give_up(self, name):
+        """Ends the build, with what was written of the crate that failed."""
+        os.write(2, b"\r\033[K" * os.isatty(2) + self.said(name) + f"ppq: {name} could not be built\n".encode())
+        sys.exit(NOT_BUILT)
+
+    def ready(self):
+        """Returns the crates that wait for nobody, those with the longest chain behind them first."""
+        waiting = [it for it in self.names if it not in self.running and it not in self.done]
+        return sorted((it for it in waiting if all(below in self.done for below in self.lists[it])), key=lambda it: -self.behind[it])
+
+    def start_ready(self, most):
+        """Starts as many crates as there are jobs for; one gets the jobs that no other is ready for."""
+        ready = self.ready()
+        for place, name in enumerate(ready):
+            idle = most - sum(jobs for _, jobs in self.running.values())
+            if idle == 0:
+                return
+            jobs = max(1, min(MOST_JOBS, idle // (len(ready) - place)))
+            self.start(name, ["lib", "--jobs", str(jobs)], jobs)
+
+    def wait(self):
+        """Waits until a crate is proved, and says so."""
+        while not any(process.poll() is not None for process, _ in self.running.values()):
+            time.sleep(0.2)
+            self.say()
+        for name in [it for it, (process, _) in self.running.items() if process.poll() is not None]:
+            if self.running.pop(name)[0].returncode != 0:
+                self.give_up(name)
+            self.done.append(name)
+            self.say(f"{len(self.done)} of {len(self.names)} crates are proved, {name} the last")
+
+    def link(self, name):
+        """Links a program and runs it. Without words it prints its usage and ends with 2, which shows that it was built."""
+        self.say(f"all is proved; {name} is linked")
+        self.start(name, ["run"], 1)
+        status = self.running[name][0].wait()
+        del self.running[name]
+        usage = f"{name.replace('_', '-')}: usage: ".encode()
+        if status != 2 or not self.said(name).splitlines()[-1:] or not self.said(name).splitlines()[-1].startswith(usage):
+            self.give_up(name)
+
+    def run(self):
+        self.say(self.text)
+        most = lanes()
+        while len(self.done) < len(self.names):
+            self.start_ready(most)
+            self.wait()
+        for name in self.programs:
+            self.link(name)
+        for name in self.programs:
+            os.utime(CRATES / name / "out" / name)
+        os.write(2, b"\r\033[K" * os.isatty(2))
+
+    def stop(self):
+        """Ends what still runs."""
+        for process, _ in self.running.values():
+            if process.poll() is None:
+                os.killpg(process.pid, signal.SIGTERM)
+                process.wait()
+
+
+def main(programs):
+    for number in signal.SIGHUP, signal.SIGINT, signal.SIGTERM:
+        signal.signal(number, lambda *_: sys.exit(INTERRUPTED))
+    build = Build(programs)
+    try:
+        build.run()
+    finally:
+        build.stop()
+
+
+if __name__ == "__main__":
+    main(sys.argv[1:])
