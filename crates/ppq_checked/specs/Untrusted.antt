@@ -1,6 +1,6 @@
 -- A slot that may give back other bytes than it was given.
-use Rattle.std.specs.Prelude.{◌≡◌, ℕ, List, Option, Some, None, Result, OnOk, ⊤}
-use Rattle.ppq_outside.specs.Told.{Counts, HasOneCause}
+use Rattle.std.specs.Prelude.{◌≡◌, ℕ, List, Option, Some, None, Result, OnOk, OnErr, ⊤}
+use Rattle.ppq_outside.specs.Told.{Counts, HasOneCause, next_count}
 use Rattle.ppq_outside.specs.Shown.{Shown}
 use Rattle.ppq_checked.specs.Sums.{sum_of}
 
@@ -18,3 +18,5 @@ pub record IsUntrustedRead {T E : Type 0} (result : Result T E) (bytes : List �
   pub writes : now.writes ≡ before.writes
   pub reads : Counts result before.reads now.reads
   pub cause : HasOneCause before.faults now.faults result
+  -- a failed call is one call
+  pub once : OnErr result (now.faults ≡ next_count before.faults)

@@ -1,6 +1,6 @@
 //! A block that notices when what is read is not what was written.
 ghost use Rattle.std.specs.Prelude.{◌≡◌, ◌⊎◌, ◌↔◌, Some, None, length, IsSome, OnOk, OnErr, IsTrue};
-ghost use Rattle.ppq_outside.specs.Told.{Rose};
+ghost use Rattle.ppq_outside.specs.Told.{next_count};
 ghost use Rattle.ppq_outside.specs.Shown.{IsWritten, IsRead, Tells};
 ghost use Rattle.ppq_checked.specs.Sums.{sum_of};
 ghost use Rattle.ppq_checked.specs.Kept.{CheckedState, HasSum, shown_over};
@@ -121,8 +121,8 @@ impl<S: UntrustedSlot> Slot for Checked<S> {
     fn read<H: Host>(&mut self, rt: &H, into: &mut [u8]) -> Result<(), Failed>
         requires { length into.old ≡ (S.shown self.old.inside).size }
         ensures noticed { OnOk result (HasSum self.old.sum into.new) }
-        ensures cause { OnErr result (Rose (S.shown self.old.inside).faults (S.shown self.new.inside).faults ⊎ (HasSum self.old.sum into.new → ⊥)) }
-        ensures tells { S.honest self.old.inside → Tells (S.shown self.old.inside) → IsSome self.old.sum → OnErr result (Rose (S.shown self.old.inside).faults (S.shown self.new.inside).faults) }
+        ensures cause { OnErr result (((S.shown self.new.inside).faults ≡ next_count (S.shown self.old.inside).faults) ⊎ (HasSum self.old.sum into.new → ⊥)) }
+        ensures tells { S.honest self.old.inside → Tells (S.shown self.old.inside) → IsSome self.old.sum → OnErr result ((S.shown self.new.inside).faults ≡ next_count (S.shown self.old.inside).faults) }
         ensures differed { S.honest self.old.inside → Tells (S.shown self.old.inside) → IsSome self.old.sum → self.new.differed ≡ self.old.differed }
         ensures kept { self.new.sum ≡ self.old.sum }
         ensures shown { IsRead result into.new (shown_over S.shown self.old) (shown_over S.shown self.new) }

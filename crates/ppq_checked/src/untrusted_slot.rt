@@ -39,13 +39,14 @@ pub trait UntrustedSlot: Drop {
     fn reads(&self) -> u64
         ensures { result ≡ (shown self.now).reads };
 
-    /// Writes the whole block: one block transfer. `Failed` is returned only if the count of faults rose.
+    /// Writes the whole block: one block transfer. `Failed` is returned only if the count of faults
+    /// rose, by exactly one.
     fn write<H: Host>(&mut self, rt: &H, bytes: &[u8]) -> Result<(), Failed>
         requires { length bytes.now ≡ (shown self.old).size }
         ensures { IsWritten result bytes.now (shown self.old) (shown self.new) };
 
     /// Reads the whole block: one block transfer. It may give any bytes but others of the same sum. `Failed` is
-    /// returned only if the count of faults rose, and nothing is then known of `into`.
+    /// returned only if the count of faults rose, by exactly one, and nothing is then known of `into`.
     fn read<H: Host>(&mut self, rt: &H, into: &mut [u8]) -> Result<(), Failed>
         requires { length into.old ≡ (shown self.old).size }
         ensures shown { IsUntrustedRead result into.new (shown self.old) (shown self.new) }

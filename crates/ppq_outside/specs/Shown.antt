@@ -1,6 +1,6 @@
 -- What contracts see of a slot, and what its calls do to it.
-use Rattle.std.specs.Prelude.{◌≡◌, ℕ, List, Option, Result, OnOk, IsSome, All}
-use Rattle.ppq_outside.specs.Told.{Keeps, StillTells, Counts, HasOneCause}
+use Rattle.std.specs.Prelude.{◌≡◌, ℕ, List, Option, Result, OnOk, OnErr, IsSome, All}
+use Rattle.ppq_outside.specs.Told.{Keeps, StillTells, Counts, HasOneCause, next_count}
 
 -- where the slot tells, the bytes that it holds; its number on the device; its length in bytes; how many calls of it failed, and how
 -- many writes and reads answered Ok
@@ -21,6 +21,8 @@ pub record IsWritten {T E : Type 0} (result : Result T E) (bytes : List ℕ) (be
   pub writes : Counts result before.writes now.writes
   pub reads : now.reads ≡ before.reads
   pub cause : HasOneCause before.faults now.faults result
+  -- a failed call is one call
+  pub once : OnErr result (now.faults ≡ next_count before.faults)
 
 -- a read was called once, with this answer, and gave these bytes
 pub record IsRead {T E : Type 0} (result : Result T E) (bytes : List ℕ) (before now : Shown) : Type 0 where
@@ -31,6 +33,8 @@ pub record IsRead {T E : Type 0} (result : Result T E) (bytes : List ℕ) (befor
   pub writes : now.writes ≡ before.writes
   pub reads : Counts result before.reads now.reads
   pub cause : HasOneCause before.faults now.faults result
+  -- a failed call is one call
+  pub once : OnErr result (now.faults ≡ next_count before.faults)
 
 -- the slot tells
 abbrev pub Tells : Shown → Type 0

@@ -1,6 +1,6 @@
 //! A block in memory.
 ghost use Rattle.std.specs.Prelude.{◌≡◌, ◌≤◌, length, IfOk, OnOk, OnErr, not, is_ok, IsTrue, false};
-ghost use Rattle.ppq_outside.specs.Told.{Rose};
+ghost use Rattle.ppq_outside.specs.Told.{next_count};
 
 use crate::forged::{forge, seed_of};
 use crate::{Failed, Host, Slot};
@@ -67,7 +67,7 @@ impl MemSlot {
         ensures answer { result ≡ slot_fails self.old }
         ensures after { self.new ≡ after_call self.old }
         ensures later { self.old.faults ≤ self.new.faults }
-        ensures rose { IsTrue result → Rose self.old.faults self.new.faults }
+        ensures once { IsTrue result → self.new.faults ≡ next_count self.old.faults }
     {
         self.calls = self.calls.saturating_add(1);
         let fails = self.plan.as_slice().contains(&self.calls);

@@ -34,13 +34,13 @@ pub trait Slot: Drop {
         ensures { result ≡ (shown self.now).reads };
 
     /// Writes the whole block: one block transfer. `Failed` is returned only if the count of faults
-    /// rose, and nothing is then known of the bytes that the slot holds.
+    /// rose, by exactly one, and nothing is then known of the bytes that the slot holds.
     fn write<H: Host>(&mut self, rt: &H, bytes: &[u8]) -> Result<(), Failed>
         requires { length bytes.now ≡ (shown self.old).size }
         ensures { IsWritten result bytes.now (shown self.old) (shown self.new) };
 
     /// Reads the whole block: one block transfer. `Failed` is returned only if the count of faults
-    /// rose, and nothing is then known of `into`; the slot holds what it held.
+    /// rose, by exactly one, and nothing is then known of `into`; the slot holds what it held.
     fn read<H: Host>(&mut self, rt: &H, into: &mut [u8]) -> Result<(), Failed>
         requires { length into.old ≡ (shown self.old).size }
         ensures { IsRead result into.new (shown self.old) (shown self.new) };
