@@ -14,7 +14,7 @@ use Rattle.ppq_spill.proofs.SameSlots.{SameSlots-refl}
 use Rattle.ppq_row.specs.Known.{Known as RowKnown}
 use Rattle.ppq_row.specs.Seats.{Drew, NoneLeft}
 use Rattle.ppq_pool.specs.Known.{Known as PoolKnown}
-use Rattle.ppq_pool.specs.Hands.{with_give, looks_below}
+use Rattle.ppq_pool.specs.Hands.{with_give, looks_below, last_moment}
 use Rattle.ppq_pool.specs.Seats.{Takes, FoundHeld}
 use Rattle.ppq_pass.specs.declared.shared.PoolBuf.{PoolBuf}
 use Rattle.ppq_pass.specs.declared.shared.Shared.{Shared}
@@ -64,7 +64,7 @@ module _ {S R : Type 0} where
     since_scant pool' n found = record { more = is.more; places = is.places; steps = omega (arith, is.steps, ap length found.looked, length-append (looks_below n) pool.hand.trail) }
 
     -- a buffer that was given back
-    pub since_gave : (pool' : PoolKnown (PoolBuf R)) (i : ℕ) (buf : PoolBuf R) → pool'.hand ≡ with_give i buf pool.hand → IsSince places steps row pool'
+    pub since_gave : (pool' : PoolKnown (PoolBuf R)) (i : ℕ) (buf : PoolBuf R) → pool'.hand ≡ with_give (last_moment pool'.hand) i buf pool.hand → IsSince places steps row pool'
     since_gave pool' i buf gave = record { more = is.more; places = is.places; steps = omega (arith, is.steps, ap (λ h. length h.trail) gave) }
 
   -- a pass of which nothing changed but its records

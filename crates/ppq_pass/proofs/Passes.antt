@@ -18,7 +18,7 @@ use Rattle.ppq_row.specs.Known.{Known as RowKnown}
 use Rattle.ppq_row.specs.Seats.{IsSeatOf as IsRowSeat, Drew, NoneLeft}
 use Rattle.ppq_row.specs.declared.hand.Hand.{Hand as RowHand}
 use Rattle.ppq_pool.specs.Known.{Known as PoolKnown}
-use Rattle.ppq_pool.specs.Hands.{without, with_give, looks_below}
+use Rattle.ppq_pool.specs.Hands.{without, with_give, looks_below, last_moment}
 use Rattle.ppq_pool.proofs.Lists.{without-here, without-past}
 use Rattle.ppq_pool.specs.Seats.{IsSeatOf as IsPoolSeat, count_of, Takes, FoundHeld}
 use Rattle.ppq_pool.specs.declared.hand.Move.{Move}
@@ -228,7 +228,7 @@ module _ {S R : Type 0} {shown : S → Shown} {width : ℕ} {home : Shared S R} 
       last_alone = omega (arith, last_count, is.each_once i)
 
     pub IsPass-gave :
-        (pool' : PoolKnown (PoolBuf R)) (numbers' : Vec ℕ Global) → IsPoolSeat home.pool pool' → (i : ℕ) (buf : PoolBuf R) → pool'.hand ≡ with_give i buf pool.hand → numbers.items ≡ numbers'.items ++ i ∷ [] → vec_capacity numbers' ≡ vec_capacity numbers
+        (pool' : PoolKnown (PoolBuf R)) (numbers' : Vec ℕ Global) → IsPoolSeat home.pool pool' → (i : ℕ) (buf : PoolBuf R) → pool'.hand ≡ with_give (last_moment pool'.hand) i buf pool.hand → numbers.items ≡ numbers'.items ++ i ∷ [] → vec_capacity numbers' ≡ vec_capacity numbers
         → IsPass shown width home row pool' stash numbers' block dry scant
     IsPass-gave pool' numbers' seat i buf gave last capacity =
         with_pool pool' numbers' scant seat (ap (λ h. h.shape) gave)

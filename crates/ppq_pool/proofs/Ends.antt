@@ -17,7 +17,7 @@ use Rattle.ppq_table.proofs.Numbers.{upto, upto-times}
 use Rattle.ppq_table.proofs.Places.{item-injective, laid_item, laid_last, laid_length, items_in-more}
 use Rattle.ppq_pool.specs.declared.hand.Hand.{Hand}
 use Rattle.ppq_pool.specs.Hands.{first_hand, common_shape}
-use Rattle.ppq_pool.specs.Histories.{moves_of, trail_of}
+use Rattle.ppq_pool.specs.Histories.{moves_of, trail_of, moments_of}
 use Rattle.ppq_pool.specs.Rule.{holders, Fits, IsFree, IsHeld, PoolRule}
 use Rattle.ppq_pool.specs.Seats.{others_below, IsLeft}
 use Rattle.ppq_pool.proofs.Lists.{None-ne-Some, Contains-numbered}
@@ -71,6 +71,7 @@ module _ {T : Type 0} where
               is_free = λ i lt z. refl;
               is_out = λ i lt one. absurd (let z = zeros (i + 1) in omega arith);
               on_trail = λ j v e. at_only (λ (u : Hand T). 0 < u.shares → trail_of j [] ≡ u.trail) first (λ some_share. refl) j v e;
+              on_time = λ j v e. at_only (λ (u : Hand T). 0 < u.shares → moments_of j [] ≡ u.moments) first (λ some_share. refl) j v e;
             },
             λ _. record {
               legal = tt;

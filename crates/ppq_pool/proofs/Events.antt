@@ -32,20 +32,20 @@ module _ {T : Type 0} (shape_of : T → ℕ) (shape : ℕ) (s : State (Place T) 
   still_held id i v w h at near word numbers moves old =
       subst (λ (ws : List ℕ). ShowsHistory (length s.homes - 1) ws (set s.views id w) h) (sym (same_words shape_of shape s r i near word)) (shown_still (length s.homes - 1) s.words s.views id v w at numbers moves h old)
 
-  gives : {R : Type 0} (id i : ℕ) (v : Hand T) (x : T) (h : List (Event R)) → get_elem? s.views id ≡ some v → i + 1 < length s.homes → 0 < times i v.numbers
-      → ShowsHistory (length s.homes - 1) s.words s.views h → ShowsHistory (length s.homes - 1) (set s.words (i + 1) 0) (set s.views id (with_give i x v)) (Give id i ∷ h)
-  gives id i v x h at near lists old = let one = listed shape_of shape s r id v i at near lists in
-      shown_give (length s.homes - 1) s.words s.views id i v (with_give i x v) at (omega arith) lists one.0 (omega (arith, times-without i i v.numbers lists, times-same i i refl, one.1))
+  gives : {R : Type 0} (id i : ℕ) (v : Hand T) (moment : ℕ) (x : T) (h : List (Event R)) → get_elem? s.views id ≡ some v → i + 1 < length s.homes → 0 < times i v.numbers
+      → ShowsHistory (length s.homes - 1) s.words s.views h → ShowsHistory (length s.homes - 1) (set s.words (i + 1) 0) (set s.views id (with_give moment i x v)) (Give id i ∷ h)
+  gives id i v moment x h at near lists old = let one = listed shape_of shape s r id v i at near lists in
+      shown_give (length s.homes - 1) s.words s.views id i v (with_give moment i x v) at (omega arith) lists one.0 (omega (arith, times-without i i v.numbers lists, times-same i i refl, one.1))
       (λ k ne. omega (arith, times-without i k v.numbers lists, times-other i k (λ e. ne (sym e)))) refl h old
 
 pub steps_are_events : (T R : Type 0) → StepsAreEvents T R
 steps_are_events T R = record {
   shown = λ shape_of shape s r alive. shown_same R (length s.homes - 1) s.words s.views (events_of r.logged.0, r.logged.2 alive);
-  claims = λ shape_of shape s id v i h st word old. let near = st.2 in
-      shown_take (length s.homes - 1) s.words s.views id i v (with_claim i v) st.1 (omega arith) (subst (λ (z : ℕ). i + 1 < z) (sym st.0.wide) near) word (nobody shape_of shape s st.0 i near word) refl refl h old;
-  looks = λ shape_of shape s id v i h st word old. still_held shape_of shape s st.0 id i v (with_look i v) h st.1 st.2 word refl refl old;
+  claims = λ shape_of shape s id v i moment h st word old. let near = st.2 in
+      shown_take (length s.homes - 1) s.words s.views id i v (with_claim moment i v) st.1 (omega arith) (subst (λ (z : ℕ). i + 1 < z) (sym st.0.wide) near) word (nobody shape_of shape s st.0 i near word) refl refl h old;
+  looks = λ shape_of shape s id v i moment h st word old. still_held shape_of shape s st.0 id i v (with_look moment i v) h st.1 st.2 word refl refl old;
   settles_and_reaches = λ shape_of shape s id v i place h st lists old. still_held shape_of shape s st.0 id i v (with_place place v) h st.1 st.2 (listed shape_of shape s st.0 id v i st.1 st.2 lists).2 refl refl old;
-  clears = λ shape_of shape s id v i x h st lists old. gives shape_of shape s st.0 id i v x h st.1 st.2 lists old;
+  clears = λ shape_of shape s id v i moment x h st lists old. gives shape_of shape s st.0 id i v moment x h st.1 st.2 lists old;
   splits = λ s id v h at old. shown_split (length s.homes - 1) s.words s.views id v at h old;
 }
 

@@ -176,28 +176,28 @@ module _ {T : Type 0} where
     same_words s r i near word = set_again s.words (i + 1) 1 (at_word s.words (i + 1) 1 (subst (λ (z : ℕ). i + 1 < z) (sym r.wide) near) word)
 
     -- a step that changes neither words nor numbers is no event
-    still : (s : St) (r : Rule s) (id : ℕ) (v w : Hand T) → get_elem? s.views id ≡ some v → 0 < v.shares → w.numbers ≡ v.numbers → w.moves ≡ v.moves → w.trail ≡ v.trail
+    still : (s : St) (r : Rule s) (id : ℕ) (v w : Hand T) → get_elem? s.views id ≡ some v → 0 < v.shares → w.numbers ≡ v.numbers → w.moves ≡ v.moves → w.trail ≡ v.trail → w.moments ≡ v.moments
         → HasLog (length s.homes - 1) s.words (set s.views id w)
-    still s r id v w at some_share numbers same_moves same_trail = let was = r.logged in let n : ℕ = length s.homes - 1 in (
+    still s r id v w at some_share numbers same_moves same_trail same_moments = let was = r.logged in let n : ℕ = length s.homes - 1 in (
       was.0,
-      log_still n s.words s.views id v w at some_share same_trail was.0 was.1,
+      log_still n s.words s.views id v w at some_share same_trail same_moments was.0 was.1,
       λ alive. shown_still n s.words s.views id v w at numbers same_moves (events_of {R = T} was.0) (was.2 (none_void_before s.views id v w at some_share alive)),
     )
 
     -- a look that found the item i held goes into the log, and is no event
-    looks : (s : St) (r : Rule s) (id : ℕ) (v w : Hand T) (i : ℕ) → get_elem? s.views id ≡ some v → 0 < v.shares → i + 1 < length s.homes → slice_index s.words (i + 1) ≡ 1 → w.numbers ≡ v.numbers → w.moves ≡ v.moves → w.trail ≡ Saw i ∷ v.trail
+    looks : (s : St) (r : Rule s) (id : ℕ) (v w : Hand T) (i : ℕ) → get_elem? s.views id ≡ some v → 0 < v.shares → i + 1 < length s.homes → slice_index s.words (i + 1) ≡ 1 → w.numbers ≡ v.numbers → w.moves ≡ v.moves → w.trail ≡ Saw i ∷ v.trail → w.moments ≡ length r.logged.0 ∷ v.moments
         → HasLog (length s.homes - 1) s.words (set s.views id w)
-    looks s r id v w i at some_share near word numbers same_moves trail = let was = r.logged in let n : ℕ = length s.homes - 1 in (
+    looks s r id v w i at some_share near word numbers same_moves trail moment = let was = r.logged in let n : ℕ = length s.homes - 1 in (
       (id, Saw i) ∷ was.0,
-      log_look n s.words s.views id i v w at some_share (omega arith) word trail was.0 was.1,
+      log_look n s.words s.views id i v w at some_share (omega arith) word trail was.0 moment was.1,
       λ alive. shown_still n s.words s.views id v w at numbers same_moves (events_of {R = T} was.0) (was.2 (none_void_before s.views id v w at some_share alive)),
     )
 
     -- the same where a word is exchanged for the 1 that it was
-    still_held : (s : St) (r : Rule s) (id : ℕ) (v w : Hand T) (i : ℕ) → i + 1 < length s.homes → slice_index s.words (i + 1) ≡ 1 → get_elem? s.views id ≡ some v → 0 < v.shares → w.numbers ≡ v.numbers → w.moves ≡ v.moves → w.trail ≡ v.trail
+    still_held : (s : St) (r : Rule s) (id : ℕ) (v w : Hand T) (i : ℕ) → i + 1 < length s.homes → slice_index s.words (i + 1) ≡ 1 → get_elem? s.views id ≡ some v → 0 < v.shares → w.numbers ≡ v.numbers → w.moves ≡ v.moves → w.trail ≡ v.trail → w.moments ≡ v.moments
         → HasLog (length s.homes - 1) (set s.words (i + 1) 1) (set s.views id w)
-    still_held s r id v w i near word at some_share numbers same_moves same_trail =
-        subst (λ (ws : List ℕ). HasLog (length s.homes - 1) ws (set s.views id w)) (sym (same_words s r i near word)) (still s r id v w at some_share numbers same_moves same_trail)
+    still_held s r id v w i near word at some_share numbers same_moves same_trail same_moments =
+        subst (λ (ws : List ℕ). HasLog (length s.homes - 1) ws (set s.views id w)) (sym (same_words s r i near word)) (still s r id v w at some_share numbers same_moves same_trail same_moments)
 
     abbrev Goes : St → ℕ → ℕ → Hand T → List (ℕ × Place T) → ℕ → (M → Type 0) → Type 0
     Goes s id i v c m then = (w : Hand T) × (a : Act (Place T)) × Valid s.homes c a × Rule (stepped s (i + 1) m id c w a) × then (w, carried_after c a)
@@ -211,7 +211,7 @@ module _ {T : Type 0} where
 
     takes_item : (s : St) (r : Rule s) (id i : ℕ) (me : M) → 0 < me.0.shares → me.0.in_hand ≡ None → get_elem? s.views id ≡ some me.0 → i + 1 < length s.homes
         → IsFree shape_of shape (slice_index s.words (i + 1)) (holders i s.views) (get_elem? s.homes i) → Goes s id i me.0 me.1 1 (claimed_at shape_of i me (slice_index s.words (i + 1)))
-    takes_item s r id i me some_share no_place at near free = let v : Hand T = me.0 in let w : Hand T = with_claim i v in let old = r.each_view id v at in let word = free.0 in let holding = free.1 in let it = free.2 in
+    takes_item s r id i me some_share no_place at near free = let v : Hand T = me.0 in let w : Hand T = with_claim (length r.logged.0) i v in let old = r.each_view id v at in let word = free.0 in let holding = free.1 in let it = free.2 in
         let nobody : times i v.numbers ≡ 0 = omega (arith, holding, one_of_total (λ u. times i u.numbers) s.views id v at) in
         let others : (k : ℕ) → k ≢ i → times k w.numbers ≡ times k v.numbers = λ k ne. omega (arith, times-append k v.numbers (i ∷ []), times-other i k (λ e. ne (sym e))) in (
           w,
@@ -223,7 +223,7 @@ module _ {T : Type 0} where
               (λ k x ne has. Contains-elsewhere i k x v.put ne has) (λ x e. absurd (some-ne-none (Item x) (sym e)))
               (let was = r.logged in let m : ℕ = length s.homes - 1 in let wide : i + 1 < length s.words = subst (λ (z : ℕ). i + 1 < z) (sym r.wide) near in (
                 (id, Took i) ∷ was.0,
-                log_take m s.words s.views id i v w at some_share (omega arith) wide word refl was.0 was.1,
+                log_take m s.words s.views id i v w at some_share (omega arith) wide word refl was.0 refl was.1,
                 λ alive. shown_take m s.words s.views id i v w at (omega arith) wide word holding refl refl (events_of {R = T} was.0) (was.2 (none_void_before s.views id v w at some_share alive)),
               ))
               (inr (refl, omega (arith, times-append i v.numbers (i ∷ []), times-same i i refl, nobody))),
@@ -232,7 +232,7 @@ module _ {T : Type 0} where
 
     looks_held : (s : St) (r : Rule s) (id i : ℕ) (me : M) → 0 < me.0.shares → get_elem? s.views id ≡ some me.0 → i + 1 < length s.homes
         → IsHeld shape_of shape (slice_index s.words (i + 1)) (holders i s.views) → Goes s id i me.0 me.1 1 (claimed_at shape_of i me (slice_index s.words (i + 1)))
-    looks_held s r id i me some_share at near held = let v : Hand T = me.0 in let w : Hand T = with_look i v in let old = r.each_view id v at in let word = held.0 in (
+    looks_held s r id i me some_share at near held = let v : Hand T = me.0 in let w : Hand T = with_look (length r.logged.0) i v in let old = r.each_view id v at in let word = held.0 in (
       w,
       keeps,
       tt,
@@ -242,7 +242,7 @@ module _ {T : Type 0} where
           (λ j u e. ⊎_elim (λ (x : (j ≡ id) × (w ≡ u)). subst (Fits shape s.homes) x.1 (record { same_shape = old.same_shape; void_nothing = old.void_nothing; in_range = old.in_range; places_home = old.places_home; place_out = old.place_out }))
           (λ (x : (j ≢ id) × (get_elem? s.views j ≡ some u)). r.each_view j u x.1) (at_set s.views id j w u e))
           (λ k x was. put_kept s.views id k x v w at (λ has. has) was)
-          (looks s r id v w i at some_share near word refl refl refl)),
+          (looks s r id v w i at some_share near word refl refl refl refl)),
       ((λ zero_word. absurd (omega (arith, zero_word, word))), λ _. (word, refl, refl)),
     )
 
@@ -260,7 +260,7 @@ module _ {T : Type 0} where
           gives,
           tt,
           moves s r id v w i 1 (some Empty) at near some_share refl refl refl one.0 (λ k ne. refl) old.in_range (λ k ne l. old.places_home k l (λ e. ne (Some-injective k i (sym e ∙ place)))) (λ _ _. refl) (λ k e. absurd (None-ne-Some k e))
-              (λ k x ne has. has) (λ x e. absurd (Empty-ne-Item x (some-injective Empty (Item x) e))) (still_held s r id v w i near one.2 at some_share refl refl refl) (inr (refl, one.1)),
+              (λ k x ne has. has) (λ x e. absurd (Empty-ne-Item x (some-injective Empty (Item x) e))) (still_held s r id v w i near one.2 at some_share refl refl refl refl) (inr (refl, one.1)),
           (refl, refl),
         )
 
@@ -272,13 +272,13 @@ module _ {T : Type 0} where
           takes i Empty,
           old.places_home i lists (free i),
           moves s r id v w i 1 none at near some_share refl refl refl one.0 (λ k ne. refl) old.in_range (λ k ne l. old.places_home k l (free k)) (λ l away. absurd (away refl)) (λ k e. (sym (Some-injective i k e), lists, refl))
-              (λ k x ne has. has) (λ x e. absurd (some-ne-none (Item x) (sym e))) (still_held s r id v w i near one.2 at some_share refl refl refl) (inr (refl, one.1)),
+              (λ k x ne has. has) (λ x e. absurd (some-ne-none (Item x) (sym e))) (still_held s r id v w i near one.2 at some_share refl refl refl refl) (inr (refl, one.1)),
           (refl, refl),
         )
 
     pub clears : (n id : ℕ) (me : M) (i : ℕ) (x : T) → 0 < me.0.shares → 0 < times i me.0.numbers → me.0.in_hand ≡ Some i → me.1 ≡ (i, Item x) ∷ rest me.1 → shape_of x ≡ me.0.shape → i + 1 < n
         → Allows Rule n id me (i + 1) (λ _. 0) (cleared (step n (i + 1) 0 0 none) me)
-    clears n id me i x some_share lists place carried same_shape inside s r wide at small = let near : i + 1 < length s.homes = subst (λ (z : ℕ). i + 1 < z) (sym wide) inside in let v : Hand T = me.0 in let w : Hand T = with_give i x v in
+    clears n id me i x some_share lists place carried same_shape inside s r wide at small = let near : i + 1 < length s.homes = subst (λ (z : ℕ). i + 1 < z) (sym wide) inside in let v : Hand T = me.0 in let w : Hand T = with_give (length r.logged.0) i x v in
         let old = r.each_view id v at in let one = listed s r id v i at near lists in
         let others : (k : ℕ) → k ≢ i → times k w.numbers ≡ times k v.numbers = λ k ne. omega (arith, times-without i k v.numbers lists, times-other i k (λ e. ne (sym e))) in
         let gone : times i w.numbers ≡ 0 = omega (arith, times-without i i v.numbers lists, times-same i i refl, one.1) in
@@ -293,11 +293,11 @@ module _ {T : Type 0} where
               (λ y e. subst (λ (z : T). Contains w.put (i, z)) (item-injective x y (some-injective (Item x) (Item y) e)) (Contains-push v.put (i, x)))
               (let was = r.logged in let m : ℕ = length s.homes - 1 in (
                 (id, Gave i) ∷ was.0,
-                log_give m s.words s.views id i v w at some_share (omega arith) (subst (λ (z : ℕ). i + 1 < z) (sym r.wide) near) one.2 refl was.0 was.1,
+                log_give m s.words s.views id i v w at some_share (omega arith) (subst (λ (z : ℕ). i + 1 < z) (sym r.wide) near) one.2 refl was.0 refl was.1,
                 λ alive. shown_give m s.words s.views id i v w at (omega arith) lists one.0 gone others refl (events_of {R = T} was.0) (was.2 (none_void_before s.views id v w at some_share alive)),
               ))
               (inl (refl, gone, (x, refl, same_shape ∙ old.same_shape some_share))),
-          ((λ y top. ap (λ (z : T). with_give i z v) (carried_item (rest me.1) (rest me.1) i x y top)), refl),
+          ((λ y top. ap (λ (z : T). with_give (length r.logged.0) i z v) (carried_item (rest me.1) (rest me.1) i x y top)), refl),
         ))
 
     pub splits : (id : ℕ) (v : Hand T) → 1 < v.shares → Splits Rule id v (less_one v) (newcomer v)

@@ -47,17 +47,23 @@ abbrev pub trail_of : ℕ → List (ℕ × Move) → List Move
 trail_of j [] = []
 trail_of j (m ∷ log) = if m.0 == j then m.1 ∷ trail_of j log else trail_of j log
 
+-- when seat j made them: how many moves of the log came before each
+abbrev pub moments_of : ℕ → List (ℕ × Move) → List ℕ
+moments_of j [] = []
+moments_of j (m ∷ log) = if m.0 == j then length log ∷ moments_of j log else moments_of j log
+
 -- each move of the log is by one of so many seats, and might come after those before it
 abbrev pub IsTrueLog : Type 0 → ℕ → List (ℕ × Move) → Type 0
 IsTrueLog R seats [] = Unit {0}
 IsTrueLog R seats (m ∷ log) = (m.0 < seats) × MayMove {R = R} m.1 (events_of log) × IsTrueLog R seats log
 
--- Such a log for n items. After it an item is free where its word is 0, and held by somebody where its word is 1. Each view that is not void has its own moves of the log on its trail, all of them and in their order, so a look stands after what the seat did before
+-- Such a log for n items. After it an item is free where its word is 0, and held by somebody where its word is 1. Each view that is not void has its own moves of the log on its trail, all of them and in their order, and the moment of each. So a look stands after what the seat did before, and where it stands is on the trail
 pub record ShowsLog (R : Type 0) {T : Type 0} (n : ℕ) (words : List ℕ) (views : List (Hand T)) (log : List (ℕ × Move)) : Type 0 where
   pub is_true : IsTrueLog R (length views) log
   pub is_free : (i : ℕ) → i < n → slice_index words (i + 1) ≡ 0 → buffer_at {R = R} i (events_of log) ≡ Free
   pub is_out : (i : ℕ) → i < n → slice_index words (i + 1) ≡ 1 → IsOut {R = R} i (events_of log)
   pub on_trail : (j : ℕ) (v : Hand T) → get_elem? views j ≡ some v → 0 < v.shares → trail_of j log ≡ v.trail
+  pub on_time : (j : ℕ) (v : Hand T) → get_elem? views j ≡ some v → 0 < v.shares → moments_of j log ≡ v.moments
 
 module _ {R T : Type 0} where
   -- A legal history of n buffers, with the number of each view for a pass. A buffer is free in it where its word is 0, and held by the pass whose view lists it. The moves of each pass are those that its view has

@@ -12,7 +12,7 @@ use Rattle.ppq_table.specs.Sums.{total, times, all_shares}
 use Rattle.ppq_pool.specs.declared.hand.Hand.{Hand}
 use Rattle.ppq_pool.specs.declared.hand.Move.{Move}
 use Rattle.ppq_pool.specs.Histories.{ShowsHistory, ShowsLog, events_of}
-use Rattle.ppq_pool.specs.Hands.{one_if_void, with_claim, with_look, with_place, with_give}
+use Rattle.ppq_pool.specs.Hands.{one_if_void, with_claim, with_look, with_place, with_give, last_moment}
 
 module _ {T : Type 0} where
   -- how often the views list the item i, all together
@@ -71,8 +71,8 @@ module _ {T : Type 0} where
   -- what an exchange of the word of the item i for 1 tells. The only seat put in itself what it finds
   abbrev pub claimed_at : (T → ℕ) → ℕ → Me (Place T) (Hand T) → ℕ → Me (Place T) (Hand T) → Type 0
   claimed_at shape_of i m n m' =
-      (n ≡ 0 → (x : T) × (shape_of x ≡ m.0.shape) × (times i m.0.numbers ≡ 0) × (m'.0 ≡ with_claim i m.0) × (m'.1 ≡ (i, Item x) ∷ m.1) × (m.0.shares ≡ all_shares → Contains m.0.put (i, x)))
-      × (n ≢ 0 → (n ≡ 1) × (m'.0 ≡ with_look i m.0) × (m'.1 ≡ m.1))
+      (n ≡ 0 → (x : T) × (shape_of x ≡ m.0.shape) × (times i m.0.numbers ≡ 0) × (m'.0 ≡ with_claim (last_moment m'.0) i m.0) × (m'.1 ≡ (i, Item x) ∷ m.1) × (m.0.shares ≡ all_shares → Contains m.0.put (i, x)))
+      × (n ≢ 0 → (n ≡ 1) × (m'.0 ≡ with_look (last_moment m'.0) i m.0) × (m'.1 ≡ m.1))
 
   abbrev pub claimed : (T → ℕ) → Step (Place T) → Me (Place T) (Hand T) → ℕ → Me (Place T) (Hand T) → Type 0
   claimed shape_of st m n m' = claimed_at shape_of (st.word - 1) m n m'
@@ -90,7 +90,7 @@ module _ {T : Type 0} where
 
   -- the place of the item i goes home with its item, and the word to 0
   abbrev pub cleared_at : ℕ → Me (Place T) (Hand T) → Me (Place T) (Hand T) → Type 0
-  cleared_at i m m' = ((x : T) → m.1 ≡ (i, Item x) ∷ rest m.1 → m'.0 ≡ with_give i x m.0) × (m'.1 ≡ rest m.1)
+  cleared_at i m m' = ((x : T) → m.1 ≡ (i, Item x) ∷ rest m.1 → m'.0 ≡ with_give (last_moment m'.0) i x m.0) × (m'.1 ≡ rest m.1)
 
   abbrev pub cleared : Step (Place T) → Me (Place T) (Hand T) → ℕ → Me (Place T) (Hand T) → Type 0
   cleared st m n m' = cleared_at (st.word - 1) m m'

@@ -1,5 +1,5 @@
 -- What a clause says of a pool and its seats.
-use Rattle.std.specs.Prelude.{◌≡◌, ℕ, zero, suc, ◌-◌, ◌<◌, ◌==◌, if◌then◌else◌, List, [], ◌∷◌, ◌++◌, All, Contains, map}
+use Rattle.std.specs.Prelude.{◌≡◌, ℕ, zero, suc, ◌-◌, ◌<◌, ◌==◌, if◌then◌else◌, List, [], ◌∷◌, ◌++◌, All, Contains, map, length}
 use Rattle.atomic_table.specs.Seated.{TableId}
 use Rattle.ppq_table.specs.Sums.{times, all_shares}
 use Rattle.ppq_pool.specs.declared.hand.Hand.{Hand}
@@ -46,10 +46,11 @@ module _ {T : Type 0} where
     -- after it on the trail stand the looks that this call made before, and then what stood there
     pub trail : (looks : List Move) × All IsLook looks × (w.trail ≡ Took i ∷ looks ++ v.trail)
 
-  -- One look of its own at each of n items, all after what stood on its trail before, found the item held. Nothing else changed
+  -- One look of its own at each of n items, all at moments after what stood on its trail before, found the item held. Nothing else changed
   pub record FoundHeld (n : ℕ) (v w : Hand T) : Type 0 where
-    pub same : w ≡ record v { trail = w.trail }
+    pub same : w ≡ record v { trail = w.trail; moments = w.moments }
     pub looked : w.trail ≡ looks_below n ++ v.trail
+    pub moments : (new : List ℕ) × (length new ≡ n) × (w.moments ≡ new ++ v.moments)
 
   -- of n items these are the ones that it does not hold, in the order of their numbers, and each was put in with its number
   abbrev pub IsLeft : ℕ → Hand T → List T → Type 0

@@ -27,6 +27,9 @@ pub struct Hand<T> {
     pub moves: LinkedList<Move>,
     /// What it took, gave and found held itself, the newest first.
     pub trail: LinkedList<Move>,
+    /// When it made each move on its trail: how many moves all seats had made before. The newest
+    /// first.
+    pub moments: LinkedList<u64>,
     /// How many seats were joined, in all, to make it.
     pub joins: u64,
     /// The item whose place it has in hand, within a call.

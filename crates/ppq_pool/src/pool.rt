@@ -1,6 +1,6 @@
 //! A pool, and its calls.
 ghost use Rattle.std.specs.Prelude.{◌≡◌, ℕ, ◌+◌, ◌-◌, ◌<◌, All, Contains, length, IfSome, IfNone, IfOk, IfErr, vec_len};
-ghost use Rattle.ppq_pool.specs.Hands.{first_hand, common_shape, less_one, newcomer, together, with_look, with_give};
+ghost use Rattle.ppq_pool.specs.Hands.{first_hand, common_shape, less_one, newcomer, together, with_look, with_give, last_moment};
 ghost use Rattle.ppq_pool.specs.Seats.{IsSeatOf, IsOnly, IsLeft, count_of, Holds, Takes, FoundHeld};
 
 use crate::plays::{Claims, Clears, OneShare, Reaches, Settles, Together};
@@ -65,8 +65,9 @@ impl<T: Shaped + Drop> Pool<T> {
 
     /// A free item, with its number, which the seat holds from now on.
     ///
-    /// `None` is returned only if this call found each item's word held, one exchange for each. It
-    /// takes at most one exchange for each item and one more, and waits for nobody.
+    /// `None` is returned only if this call found each item's word held, one exchange for each: at
+    /// some step of this call somebody held it (`looks_are_true`). It takes at most one exchange for
+    /// each item and one more, and waits for nobody.
     pub fn take(&self, seat: &mut PoolSeat<T>) -> Option<(u32, T)>
         requires pool { IsSeatOf self.now seat.old }
         ensures pool { IsSeatOf self.now seat.new }
@@ -97,7 +98,7 @@ impl<T: Shaped + Drop> Pool<T> {
         ensures shape { IfSome result (λ x. T.shape_of x ≡ seat.old.hand.shape) }
         ensures taken { IfSome result (λ _. Takes seat.old.hand number seat.new.hand) }
         ensures own { IfSome result (λ x. IsOnly seat.old.hand → Contains seat.old.hand.put (number, x)) }
-        ensures none { IfNone result (seat.new.hand ≡ with_look number seat.old.hand) }
+        ensures none { IfNone result (seat.new.hand ≡ with_look (last_moment seat.new.hand) number seat.old.hand) }
     {
         let shared = &self.table.shared;
         if shared.swap::<Claims>(&mut seat.seat, number + 1, 1) != 0 {
@@ -122,7 +123,7 @@ impl<T: Shaped + Drop> Pool<T> {
         requires shape { T.shape_of item ≡ seat.old.hand.shape }
         ensures pool { IsSeatOf self.now seat.new }
         ensures pass { seat.new.pass ≡ seat.old.pass }
-        ensures given { seat.new.hand ≡ with_give number item seat.old.hand }
+        ensures given { seat.new.hand ≡ with_give (last_moment seat.new.hand) number item seat.old.hand }
     {
         let shared = &self.table.shared;
         let place = number as usize;

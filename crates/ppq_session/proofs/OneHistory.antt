@@ -11,6 +11,7 @@ use Rattle.ppq_pass.specs.ppq_core.History.{buffer_at, slot_at, draws, IsLegalNe
 use Rattle.ppq_pass.specs.ppq_core.Laws.{TellsSlots}
 use Rattle.ppq_pass.specs.ppq_core.Parts.{buffer_part, slot_part, place_of_pass, renumbered, EndsRenumbered, PartsInterleave, PartsAreLegal, PassesRenumber}
 use Rattle.ppq_pass.specs.ppq_pool.declared.hand.Hand.{Hand as PoolHand}
+use Rattle.ppq_pass.specs.ppq_pool.Hands.{last_moment}
 use Rattle.ppq_pass.specs.ppq_pool.Histories.{ShowsHistory}
 use Rattle.ppq_pass.specs.ppq_pool.Shown.{StepsAreEvents as PoolSteps}
 use Rattle.ppq_pass.specs.ppq_row.declared.hand.Hand.{Hand as RowHand}
@@ -182,16 +183,16 @@ module _ {B S R : Type 0} (tells : TellsSlots R) (together : PartsInterleave R) 
       same = ap (λ (n : ℕ). n - 1) (sym q.0.wide ∙ ap length b.0 ∙ long ∙ r.0.wide)
 
   at_pool_on : (x : Seating B S) (s t : PoolAndRow B S) (h k : List (Event R)) → MeetsRules x s → MeetsRules x t → t.row ≡ s.row → ShowsTogether x s h → PoolStep x s.pool t.pool h k → ShowsTogether x t k
-  at_pool_on x s t h k r q row o (PoolStep.takes id i v at word b e) = let near : i < buffers_of s.pool = let a = at.1 in omega arith in let g = o.of_pool in
+  at_pool_on x s t h k r q row o (PoolStep.takes id i moment v at word b e) = let near : i < buffers_of s.pool = let a = at.1 in omega arith in let g = o.of_pool in
       subst (ShowsTogether x t) (sym e) (pool_on x s t h (Take (x.pool_pass id) i ∷ h) (Take id i ∷ g.0) _ _ r q row b (length-set s.pool.words (i + 1) 1) o
-      (at_pools.claims x.shape_of x.shape s.pool id v i g.0 (r.0, at.0, at.1) word g.1) ((x.pool_below id, near, o.free_buffer i near word), o.legal) (ap (λ l. Take (x.pool_pass id) i ∷ l) g.2) refl)
-  at_pool_on x s t h k r q row o (PoolStep.looks id i v at word b e) = let g = o.of_pool in
-      subst (ShowsTogether x t) (sym e) (pool_on x s t h h g.0 _ _ r q row b (length-set s.pool.words (i + 1) 1) o (at_pools.looks x.shape_of x.shape s.pool id v i g.0 (r.0, at.0, at.1) word g.1) o.legal g.2 refl)
+      (at_pools.claims x.shape_of x.shape s.pool id v i moment g.0 (r.0, at.0, at.1) word g.1) ((x.pool_below id, near, o.free_buffer i near word), o.legal) (ap (λ l. Take (x.pool_pass id) i ∷ l) g.2) refl)
+  at_pool_on x s t h k r q row o (PoolStep.looks id i moment v at word b e) = let g = o.of_pool in
+      subst (ShowsTogether x t) (sym e) (pool_on x s t h h g.0 _ _ r q row b (length-set s.pool.words (i + 1) 1) o (at_pools.looks x.shape_of x.shape s.pool id v i moment g.0 (r.0, at.0, at.1) word g.1) o.legal g.2 refl)
   at_pool_on x s t h k r q row o (PoolStep.settles_or_reaches id i v place at lists b e) = let g = o.of_pool in
       subst (ShowsTogether x t) (sym e) (pool_on x s t h h g.0 _ _ r q row b (length-set s.pool.words (i + 1) 1) o (at_pools.settles_and_reaches x.shape_of x.shape s.pool id v i place g.0 (r.0, at.0, at.1) lists g.1) o.legal g.2 refl)
-  at_pool_on x s t h k r q row o (PoolStep.gives id i v y at lists b e) = let near : i < buffers_of s.pool = let a = at.1 in omega arith in let g = o.of_pool in
+  at_pool_on x s t h k r q row o (PoolStep.gives id i moment v y at lists b e) = let near : i < buffers_of s.pool = let a = at.1 in omega arith in let g = o.of_pool in
       subst (ShowsTogether x t) (sym e) (pool_on x s t h (Give (x.pool_pass id) i ∷ h) (Give id i ∷ g.0) _ _ r q row b (length-set s.pool.words (i + 1) 0) o
-      (at_pools.clears x.shape_of x.shape s.pool id v i y g.0 (r.0, at.0, at.1) lists g.1) ((x.pool_below id, near, o.held_buffer i id v at.0 lists), o.legal) (ap (λ l. Give (x.pool_pass id) i ∷ l) g.2) refl)
+      (at_pools.clears x.shape_of x.shape s.pool id v i moment y g.0 (r.0, at.0, at.1) lists g.1) ((x.pool_below id, near, o.held_buffer i id v at.0 lists), o.legal) (ap (λ l. Give (x.pool_pass id) i ∷ l) g.2) refl)
   at_pool_on x s t h k r q row o (PoolStep.splits id v at b e) = let g = o.of_pool in
       subst (ShowsTogether x t) (sym e) (pool_on x s t h h g.0 _ _ r q row b refl o (at_pools.splits s.pool id v g.0 at g.1) o.legal g.2 refl)
 
@@ -253,11 +254,11 @@ module _ {B S R : Type 0} (x : Seating B S) where
   pool_plays : (s t : PoolState B) (h : List (Event R)) → PoolPlays x s t h
   pool_plays s t h = record {
     claims = λ id i m n at b told. dite (ℕ_discrete (slice_index s.words (i + 1)) 0)
-        (λ free. let c = told.0 free in (Take (x.pool_pass id) i ∷ h, PoolStep.takes id i m.0 at free (b.0, b.1 ∙ ap (slice_set s.views id) c.3) refl))
-        (λ busy. let c = told.1 busy in (h, PoolStep.looks id i m.0 at c.0 (b.0, b.1 ∙ ap (slice_set s.views id) c.1) refl));
+        (λ free. let c = told.0 free in (Take (x.pool_pass id) i ∷ h, PoolStep.takes id i (last_moment n.0) m.0 at free (b.0, b.1 ∙ ap (slice_set s.views id) c.3) refl))
+        (λ busy. let c = told.1 busy in (h, PoolStep.looks id i (last_moment n.0) m.0 at c.0 (b.0, b.1 ∙ ap (slice_set s.views id) c.1) refl));
     settles = λ id i st m n at lists b told. (h, PoolStep.settles_or_reaches id i m.0 None at lists (b.0, b.1 ∙ ap (slice_set s.views id) told.0) refl);
     reaches = λ id i m n at lists b told. (h, PoolStep.settles_or_reaches id i m.0 (Some i) at lists (b.0, b.1 ∙ ap (slice_set s.views id) told.0) refl);
-    clears = λ id i y m n at lists out b told. (Give (x.pool_pass id) i ∷ h, PoolStep.gives id i m.0 y at lists (b.0, b.1 ∙ ap (slice_set s.views id) (told.0 y out)) refl);
+    clears = λ id i y m n at lists out b told. (Give (x.pool_pass id) i ∷ h, PoolStep.gives id i (last_moment n.0) m.0 y at lists (b.0, b.1 ∙ ap (slice_set s.views id) (told.0 y out)) refl);
   }
 
   row_plays : (s t : RowState S) (h : List (Event R)) → RowPlays x s t h

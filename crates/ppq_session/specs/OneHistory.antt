@@ -94,10 +94,10 @@ IsAt s id v i = (get_elem? s.views id ≡ some v) × (i + 1 < length s.homes)
 
 -- One step of a seat at the pool, which makes the history h into k. It claims a free buffer; it finds a buffer held; the empty place of a buffer that it holds goes home or comes into its hands; it puts a buffer back; or it gives a share to a new seat
 pub data PoolStep {B S R : Type 0} (x : Seating B S) (s t : PoolState B) (h k : List (Event R)) : Type 0 where
-  takes : (id i : ℕ) (v : PoolHand B) → IsAt s id v i → slice_index s.words (i + 1) ≡ 0 → Becomes s (i + 1) 1 id (with_claim i v) t → k ≡ Take (x.pool_pass id) i ∷ h → PoolStep x s t h k
-  looks : (id i : ℕ) (v : PoolHand B) → IsAt s id v i → slice_index s.words (i + 1) ≡ 1 → Becomes s (i + 1) 1 id (with_look i v) t → k ≡ h → PoolStep x s t h k
+  takes : (id i moment : ℕ) (v : PoolHand B) → IsAt s id v i → slice_index s.words (i + 1) ≡ 0 → Becomes s (i + 1) 1 id (with_claim moment i v) t → k ≡ Take (x.pool_pass id) i ∷ h → PoolStep x s t h k
+  looks : (id i moment : ℕ) (v : PoolHand B) → IsAt s id v i → slice_index s.words (i + 1) ≡ 1 → Becomes s (i + 1) 1 id (with_look moment i v) t → k ≡ h → PoolStep x s t h k
   settles_or_reaches : (id i : ℕ) (v : PoolHand B) (place : Option ℕ) → IsAt s id v i → 0 < times i v.numbers → Becomes s (i + 1) 1 id (with_place place v) t → k ≡ h → PoolStep x s t h k
-  gives : (id i : ℕ) (v : PoolHand B) (b : B) → IsAt s id v i → 0 < times i v.numbers → Becomes s (i + 1) 0 id (with_give i b v) t → k ≡ Give (x.pool_pass id) i ∷ h → PoolStep x s t h k
+  gives : (id i moment : ℕ) (v : PoolHand B) (b : B) → IsAt s id v i → 0 < times i v.numbers → Becomes s (i + 1) 0 id (with_give moment i b v) t → k ≡ Give (x.pool_pass id) i ∷ h → PoolStep x s t h k
   splits : (id : ℕ) (v : PoolHand B) → get_elem? s.views id ≡ some v → Divides s id (less_one v) (newcomer v) t → k ≡ h → PoolStep x s t h k
 
 -- One step of a seat at the row, likewise. It draws a slot; it finds the end; or it gives a share to a new seat

@@ -5,5 +5,5 @@ pub returns : goal.returns
 returns g c = record {
   looks = looks.looks_are_true _;
   blind = looks.no_blind_look _;
-  alone = looks.no_blind_look_alone _;
+  never = looks.no_false_look _;
 }

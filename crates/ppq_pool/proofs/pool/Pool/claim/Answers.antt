@@ -5,7 +5,7 @@ use Rattle.ppq_table.specs.declared.place.Place.TheVariants.{Item, Empty}
 use Rattle.ppq_table.specs.Sums.{times}
 use Rattle.ppq_table.proofs.Numbers.{times-append, times-same}
 use Rattle.ppq_pool.specs.declared.hand.Hand.{Hand}
-use Rattle.ppq_pool.specs.Hands.{with_claim, with_place}
+use Rattle.ppq_pool.specs.Hands.{with_claim, with_place, last_moment}
 use Rattle.ppq_pool.specs.Rule.{claimed_at}
 use Rattle.ppq_pool.proofs.Steps.{claims, settles, back, topped}
 use Rattle.ppq_pool.proofs.pool.Pool.claim.Goals as goal
@@ -24,7 +24,7 @@ exchange-requires g c = let i : ℕ = c.args.number in let told = subst (λ (j :
 pub swap-requires-in-Item : goal.swap-requires-in-Item
 swap-requires-in-Item g c = let i : ℕ = c.args.number in let v : Hand g.row.T.Denot = c.seat.inside.seat.me.0 in
     let told = subst (λ (j : ℕ). claimed_at g.T.Shaped.shape_of j c.seat.inside.seat.me c.swap.result c.swap.new.seat.me) (back i) c.swap.ensures.2 in
-    let t = told.0 c.if-swap-ne0.false in let now = c.exchange.ensures.3 in let e : c.exchange.new.seat.me.0 ≡ with_claim i v = ap (λ m. m.0) now ∙ t.3 in
+    let t = told.0 c.if-swap-ne0.false in let now = c.exchange.ensures.3 in let e : c.exchange.new.seat.me.0 ≡ with_claim (last_moment c.swap.new.seat.me.0) i v = ap (λ m. m.0) now ∙ t.3 in
     let same = ap (λ z. z.slots) c.self.view_is in let inside : i + 1 < c.self.inside.table.shared.table_id.slots = omega (arith, c.requires.number, same) in (
       c.exchange.ensures.0 ∙ c.swap.ensures.0 ∙ ap (λ k. k.pool) c.seat.view_is ∙ c.requires.pool ∙ sym c.self.view_is,
       omega (arith, inside, c.self.invariant.0),
@@ -37,7 +37,7 @@ pub invariant_of-seat-in-Item : goal.invariant_of-seat-in-Item
 invariant_of-seat-in-Item g c = let i : ℕ = c.args.number in let s = c.seat.inside.seat in let v : Hand g.row.T.Denot = s.me.0 in
     let told = subst (λ (j : ℕ). claimed_at g.T.Shaped.shape_of j s.me c.swap.result c.swap.new.seat.me) (back i) c.swap.ensures.2 in
     let t = told.0 c.if-swap-ne0.false in let now = c.exchange.ensures.3 in let end = c.swap-in-Item.ensures in
-    let e : c.swap-in-Item.new.seat.me.0 ≡ with_place None (with_claim i v) = end.2.0 ∙ ap (with_place None) (ap (λ m. m.0) now ∙ t.3) in
+    let e : c.swap-in-Item.new.seat.me.0 ≡ with_place None (with_claim (last_moment c.swap.new.seat.me.0) i v) = end.2.0 ∙ ap (with_place None) (ap (λ m. m.0) now ∙ t.3) in
     let same : s.table_id ≡ c.swap-in-Item.new.seat.table_id = sym (end.0 ∙ c.exchange.ensures.0 ∙ c.swap.ensures.0) in
     let pool : s.table_id ≡ c.args.self.now = ap (λ k. k.pool) c.seat.view_is ∙ c.requires.pool in let slots = ap (λ z. z.slots) pool in record {
       part = subst (λ (w : Hand g.row.T.Denot). 0 < w.shares) (sym e) c.seat.invariant.part;

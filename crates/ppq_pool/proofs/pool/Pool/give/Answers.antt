@@ -4,7 +4,7 @@ use Rattle.ppq_table.specs.declared.place.Place.TheVariants.{Item, Empty}
 use Rattle.ppq_table.specs.Sums.{times}
 use Rattle.ppq_table.proofs.Numbers.{times_in}
 use Rattle.ppq_pool.specs.declared.hand.Hand.{Hand}
-use Rattle.ppq_pool.specs.Hands.{with_place, with_give}
+use Rattle.ppq_pool.specs.Hands.{with_place, with_give, last_moment}
 use Rattle.ppq_pool.specs.Rule.{reached_at, cleared_at}
 use Rattle.ppq_pool.proofs.Lists.{All-without}
 use Rattle.ppq_pool.proofs.Steps.{reaches, clears, back, topped}
@@ -36,7 +36,7 @@ pub invariant_of-seat : goal.invariant_of-seat
 invariant_of-seat g c = let i : ℕ = c.args.number in let s = c.seat.inside.seat in let v : Hand g.row.T.Denot = s.me.0 in
     let told = subst (λ (j : ℕ). reached_at j s.me c.swap.new.seat.me) (back i) c.swap.ensures.2 in let now = c.exchange.ensures.3 in
     let end = subst (λ (j : ℕ). cleared_at j c.exchange.new.seat.me c.swap-2.new.seat.me) (back i) c.swap-2.ensures.2 in
-    let e : c.swap-2.new.seat.me.0 ≡ with_give i c.args.item v = end.0 c.args.item (topped _ _ i (Item c.args.item) (ap (λ m. m.1) now)) ∙ ap (with_give i c.args.item) (ap (λ m. m.0) now ∙ told.0) in
+    let e : c.swap-2.new.seat.me.0 ≡ with_give (last_moment c.swap-2.new.seat.me.0) i c.args.item v = end.0 c.args.item (topped _ _ i (Item c.args.item) (ap (λ m. m.1) now)) ∙ ap (with_give (last_moment c.swap-2.new.seat.me.0) i c.args.item) (ap (λ m. m.0) now ∙ told.0) in
     let same : s.table_id ≡ c.swap-2.new.seat.table_id = sym (c.swap-2.ensures.0 ∙ c.exchange.ensures.0 ∙ c.swap.ensures.0) in record {
       part = subst (λ (w : Hand g.row.T.Denot). 0 < w.shares) (sym e) c.seat.invariant.part;
       free = ap (λ (w : Hand g.row.T.Denot). w.in_hand) e;
