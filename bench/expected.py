@@ -17,9 +17,7 @@ WORD = (1 << 64) - 1
 MIX = 0x9E3779B97F4A7C15
 
 
-def machines():
-    count, pieces = 120_000, 600_000
-
+def machines(count=120_000, pieces=600_000, used="true"):
     def event(time, target, word):
         mixed = (time ^ (target << 20)) * MIX & WORD
         return (min(time + 1 + (mixed >> 44), WORD), target, word)
@@ -32,7 +30,7 @@ def machines():
         most = max(most, word)
         order = (order * 31 + target) & WORD
         heapq.heapreplace(events, event(clock, target, word + 1))
-    print(f"{pieces} pieces at {clock}, at most {most} of one machine, order {order}, {len(events)} waiting, device used: true")
+    print(f"{pieces} pieces at {clock}, at most {most} of one machine, order {order}, {len(events)} waiting, device used: {used}")
 
 
 def threads():

@@ -122,6 +122,22 @@ class Launcher(unittest.TestCase):
                 self.assertRegex(said, "ppq: why: .*\nppq: so nothing is built or run: the program would end with status ")
         self.assertFalse((self.top / "called").exists())
 
+    def test_makes_a_crate_of_ones_own(self):
+        (self.top / "bench").mkdir()
+        shutil.copy(TOP / "bench" / "expected.py", self.top / "bench")
+        shutil.copytree(TOP / "crates" / "ppq_example" / "src", self.top / "crates" / "ppq_example" / "src")
+        self.assertEqual(self.call("new", "my_queue")[0], 0)
+        made = self.top / "crates" / "my_queue"
+        self.assertIn("MACHINES: u64 = 1_000;", (made / "src" / "main.rt").read_text())
+        self.assertRegex((made / "stdout").read_text(), "^5000 pieces at .* 1000 waiting, device used: false\n$")
+        self.assertEqual(self.call("new", "my_library", "--library")[0], 0)
+        self.assertTrue((self.top / "crates" / "my_library" / "src" / "lib.rt").exists())
+        lines = (self.top / "crates.txt").read_text().splitlines()
+        self.assertEqual(lines[-2:], ["my_queue: ppq_checked ppq_device ppq_edge", "my_library: ppq_device"])
+        for name in "my_queue", "ppq_text", "My", "a-b", "":
+            self.assertEqual(self.call("new", name)[0], 2)
+        self.assertEqual(lines, (self.top / "crates.txt").read_text().splitlines())
+
     def test_packs_only_what_is_built(self):
         self.program.unlink()
         self.put_rt()

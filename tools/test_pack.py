@@ -101,7 +101,7 @@ class Pack(unittest.TestCase):
         self.assertTrue(moved and written >= moved + len(printed) and read >= moved, f"{said}{moved}")
 
     def test_builds_nothing(self):
-        for word in "build", "try", "pack":
+        for word in "build", "try", "pack", "new":
             said = f"ppq: this is a packed program, and has no sources: `./ppq {word}` works in the repository alone\n"
             self.assertEqual(self.call("./ppq", word), (125, "", said))
         self.assertIn("This is a packed program", self.call("./ppq", "--help")[1])
