@@ -1,0 +1,3 @@
+pub use Rattle.ppq_outside.specs as ppq_outside
+pub mod Buffered
+pub mod Frames
