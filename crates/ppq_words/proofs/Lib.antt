@@ -8,6 +8,7 @@ mod Parse
 mod Parts
 mod Queue
 mod Rows
+mod ServeLaw
 mod SimLaw
 mod Spelled
 mod SweepLaw

@@ -1,4 +1,4 @@
--- The line that explains a command's usage, as arguments: the name that stands alone, what it says of the queue, and what stands behind that.
+-- The line that explains a command's usage, as arguments: what it says of the queue, and what stands behind that.
 use Rattle.std.proofs.Common.{◌≡◌, ◌∙◌, true, false, refl, ap, arith, List, [], ◌∷◌, ◌++◌, flat_map, codes}
 use Rattle.std.specs.List.{list_all, AllByRecursion as Each}
 use Rattle.std.proofs.lemmas.Bool.Decides.{nat_tests}
@@ -6,7 +6,7 @@ use Rattle.ppq_words.specs.declared.budget_unit.BudgetUnit.{BudgetUnit}
 use Rattle.ppq_words.specs.declared.budget_unit.BudgetUnit.TheVariants as unit
 use Rattle.ppq_words.specs.Uses.{Text, is_option}
 use Rattle.ppq_words.specs.Given.{Given}
-use Rattle.ppq_words.specs.Meaning.{Argument, bare, apart, spelled_as, IsNamed, IsPlain, value_in, scripts_in, values_of, HasSizes, budget_option, other_option, IsName, IsQueueUsage}
+use Rattle.ppq_words.specs.Meaning.{Argument, apart, spelled_as, IsNamed, IsPlain, value_in, scripts_in, values_of, HasSizes, budget_option, other_option, IsQueueUsage}
 use Rattle.ppq_words.proofs.Names.{among}
 use Rattle.ppq_words.proofs.Told.{is_named, all_named}
 use Rattle.ppq_words.proofs.Parts.{size_options, Spells-IsPlain}
@@ -29,11 +29,11 @@ each_none (o ∷ os) more e = go (values_of o more) e (each_none os more)
     go [] e rest = (refl, rest e)
     go (v ∷ vs) e rest = cc
 
-module _ (name device blocks workers block heap budget : Text) (more : List Argument) where
+module _ (device blocks workers block heap budget : Text) (more : List Argument) where
   -- the arguments of the line
   abbrev line : BudgetUnit → List Argument
   line u =
-      bare name ∷ apart (codes "--device") device ∷ apart (codes "--blocks") blocks ∷ apart (codes "--workers") workers ∷ apart (codes "--block") block ∷ apart (codes "--heap") heap ∷ apart (budget_option u) budget ∷ more
+      apart (codes "--device") device ∷ apart (codes "--blocks") blocks ∷ apart (codes "--workers") workers ∷ apart (codes "--block") block ∷ apart (codes "--heap") heap ∷ apart (budget_option u) budget ∷ more
 
   -- an option's values are this one, and those that stand behind
   abbrev Adds : BudgetUnit → Text → Text → Type 0
@@ -59,8 +59,8 @@ module _ (name device blocks workers block heap budget : Text) (more : List Argu
   line_named unit.Bytes options all rest = grind (arith, nat_tests)
 
   -- no value begins with `-`
-  line_plain : (u : BudgetUnit) → IsPlain name → IsPlain device → IsPlain blocks → IsPlain workers → IsPlain block → IsPlain heap → IsPlain budget → Each (λ a. IsPlain (value_in a)) more → Each (λ a. IsPlain (value_in a)) (line u)
-  line_plain u n d k w b h m rest = (n, (d, (k, (w, (b, (h, (m, rest)))))))
+  line_plain : (u : BudgetUnit) → IsPlain device → IsPlain blocks → IsPlain workers → IsPlain block → IsPlain heap → IsPlain budget → Each (λ a. IsPlain (value_in a)) more → Each (λ a. IsPlain (value_in a)) (line u)
+  line_plain u d k w b h m rest = (d, (k, (w, (b, (h, (m, rest))))))
 
 -- each of these options stands once where it stands before the others
 module _ (args more : List Argument) (behind : IsBehind more) where
@@ -75,34 +75,34 @@ budget_known : (u : BudgetUnit) → (is_option queue_options (budget_option u) �
 budget_known unit.Records = (refl, refl)
 budget_known unit.Bytes = (refl, refl)
 
--- a line: the words of a name, of a queue, and of what stands behind, as arguments
-pub record IsLineOf (queue : List Text) (name device : Text) (g : Given) (more : List Argument) : Type 0 where
+-- a line: the words of a queue, and of what stands behind, as arguments
+pub record IsLineOf (queue : List Text) (device : Text) (g : Given) (more : List Argument) : Type 0 where
   pub arguments : List Argument
-  pub spelled : name ∷ queue ++ flat_map spelled_as more ≡ flat_map spelled_as arguments
+  pub spelled : queue ++ flat_map spelled_as more ≡ flat_map spelled_as arguments
   pub named : (options : List Text) → list_all (is_option options) queue_options ≡ true → list_all (is_named options) more ≡ true → Each (IsNamed options) arguments
   pub plain : Each (λ a. IsPlain (value_in a)) more → Each (λ a. IsPlain (value_in a)) arguments
-  pub script : scripts_in arguments ≡ name ∷ []
+  pub script : scripts_in arguments ≡ []
   pub device_is : values_of (codes "--device") arguments ≡ device ∷ []
   pub sizes : HasSizes arguments g
   pub others : (option : Text) → is_option queue_options option ≡ false → values_of option arguments ≡ values_of option more
 
-pub line_of : (queue : List Text) (name device : Text) (g : Given) (more : List Argument) → IsName name → IsQueueUsage queue device g → IsBehind more → IsLineOf queue name device g more
-line_of queue name device g more name_is h behind =
+pub line_of : (queue : List Text) (device : Text) (g : Given) (more : List Argument) → IsQueueUsage queue device g → IsBehind more → IsLineOf queue device g more
+line_of queue device g more h behind =
     let n = g.numbers in
     let u = g.unit in
     let digits = h.budget_is.0 in
-    let args = line name device h.blocks h.workers h.block h.heap digits more u in
-    let is = line_is name device h.blocks h.workers h.block h.heap digits more u in
+    let args = line device h.blocks h.workers h.block h.heap digits more u in
+    let is = line_is device h.blocks h.workers h.block h.heap digits more u in
     record {
       arguments = args;
       spelled =
-          ap (λ (z : List Text). name ∷ z ++ flat_map spelled_as more) h.spelled
-          ∙ ap (λ (z : List Text). name ∷ codes "--device" ∷ device ∷ codes "--blocks" ∷ h.blocks ∷ codes "--workers" ∷ h.workers ∷ codes "--block" ∷ h.block ∷ codes "--heap" ∷ h.heap ∷ z ++ flat_map spelled_as more) h.budget_is.1.0;
-      named = λ options all rest. all_named options args (line_named name device h.blocks h.workers h.block h.heap digits more u options all rest);
+          ap (λ (z : List Text). z ++ flat_map spelled_as more) h.spelled
+          ∙ ap (λ (z : List Text). codes "--device" ∷ device ∷ codes "--blocks" ∷ h.blocks ∷ codes "--workers" ∷ h.workers ∷ codes "--block" ∷ h.block ∷ codes "--heap" ∷ h.heap ∷ z ++ flat_map spelled_as more) h.budget_is.1.0;
+      named = λ options all rest. all_named options args (line_named device h.blocks h.workers h.block h.heap digits more u options all rest);
       plain =
-          line_plain name device h.blocks h.workers h.block h.heap digits more u name_is.1 h.device_is.1 (Spells-IsPlain h.blocks n.blocks h.spelled_blocks) (Spells-IsPlain h.workers n.workers h.spelled_workers)
+          line_plain device h.blocks h.workers h.block h.heap digits more u h.device_is.1 (Spells-IsPlain h.blocks n.blocks h.spelled_blocks) (Spells-IsPlain h.workers n.workers h.spelled_workers)
           (Spells-IsPlain h.block n.block h.spelled_block) (Spells-IsPlain h.heap n.heap h.spelled_heap) (Spells-IsPlain digits n.memory h.budget_is.1.1);
-      script = ap (λ (z : List Text). name ∷ z) behind.script;
+      script = behind.script;
       device_is = once args more behind (codes "--device") device refl is.0;
       sizes = record {
         blocks = record { digits = h.blocks; once = once args more behind (codes "--blocks") h.blocks refl is.1; spelled = h.spelled_blocks };
@@ -115,5 +115,5 @@ line_of queue name device g more name_is h behind =
         };
         in_range = h.in_range;
       };
-      others = line_others name device h.blocks h.workers h.block h.heap digits more u;
+      others = line_others device h.blocks h.workers h.block h.heap digits more u;
     }

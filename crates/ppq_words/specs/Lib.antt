@@ -6,6 +6,8 @@ pub mod Command
 pub mod Given
 pub mod Meaning
 pub mod Reading
+pub mod ServeMeaning
+pub mod ServeReading
 pub mod SimMeaning
 pub mod SimReading
 pub mod Strays

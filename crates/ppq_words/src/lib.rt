@@ -13,6 +13,9 @@
 //! --nodes V`: the same for a sweep over a graph, with the word `sweep`, the name of the file of edges in
 //! place of the script's, and another option in place of `--form`.
 //!
+//! `serve --device FILE --blocks D --workers P --block B --heap H (--memory M | --memory-bytes N)`: the same
+//! for the program `ppq-serve`, with the word `serve` and no word that stands alone.
+//!
 //! A command is a description (`Usage`): its word, and its options. The crate looks for the word and
 //! for stray hyphens first, then `clap` splits the words into names and values, and then the crate
 //! reads the values: what must stand, what excludes what, and numbers by the grammar of scripts.
@@ -22,6 +25,10 @@ mod budget_unit;
 mod given_sizes;
 mod laws;
 mod run_arguments;
+mod serve_arguments;
+mod serve_laws;
+mod serve_values;
+mod serve_words;
 mod sim_arguments;
 mod sim_laws;
 mod sim_values;
@@ -45,6 +52,9 @@ pub use ppq_script::{
     read_head,
 };
 pub use run_arguments::RunArguments;
+pub use serve_arguments::ServeArguments;
+pub use serve_laws::serve_words_mean;
+pub use serve_words::read_serve_words;
 pub use sim_arguments::SimArguments;
 pub use sim_laws::sim_words_mean;
 pub use sim_words::read_sim_words;

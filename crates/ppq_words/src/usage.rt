@@ -82,6 +82,20 @@ pub(crate) const SWEEP: Usage = Usage {
     ],
 };
 
+// The command `serve`.
+pub(crate) const SERVE: Usage = Usage {
+    word: "serve",
+    options: &[
+        "--device",
+        "--blocks",
+        "--workers",
+        "--block",
+        "--heap",
+        "--memory",
+        "--memory-bytes",
+    ],
+};
+
 impl Usage {
     // The command as `clap` is told of it. Its word stands for the program's name, and nothing is
     // required or excluded.
