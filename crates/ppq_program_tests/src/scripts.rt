@@ -228,6 +228,15 @@ fn a_script_has_at_most_1_048_576_bytes(rt: HostRuntime) {
     }
 }
 
+#[test]
+fn a_script_of_1_048_576_bytes_is_executed(rt: HostRuntime) {
+    let alloc = rt.alloc();
+    let mut script = repeated(&rt, alloc, b"push 5 1\n#", b"x", 1_048_561);
+    script.extend_from_slice(b"\npop\n").expect(&rt, "memory");
+    assert_eq!(rt; script.len(), 1_048_576);
+    gives(&rt, alloc, SIZES, &script, End::Done, b"5 1\n");
+}
+
 // Lines of words without a reading.
 const REFUSED: &[&str] = &[
     "run",

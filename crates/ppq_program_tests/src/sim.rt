@@ -188,6 +188,27 @@ fn the_journal_is_the_same_for_every_number_of_workers(rt: HostRuntime) {
     }
 }
 
+#[test]
+fn an_agenda_above_64_kilobytes_is_simulated(rt: HostRuntime) {
+    let alloc = rt.alloc();
+    let mut events = Vec::new(alloc);
+    let mut journal = "".to_string(alloc).expect(&rt, "memory");
+    for time in 0..2_800u64 {
+        events.push((time, 0, 1)).expect(&rt, "memory");
+        let line = format!(in alloc; "{time} 0 1 {}\n", time.saturating_add(1));
+        let line = line.expect(&rt, "memory");
+        journal.push_str(line.as_str()).expect(&rt, "memory");
+    }
+    journal
+        .push_str("end empty count 2800\n")
+        .expect(&rt, "memory");
+    let bytes = bytes_of(&rt, alloc, &events);
+    assert!(rt; bytes.len() > 65_536);
+    let line =
+        "sim a --device d --blocks 400 --workers 2 --block 64 --heap 1 --memory 20000 --until 10000 --events 10000";
+    does(&rt, alloc, line, &bytes, 0, journal.as_str());
+}
+
 // Asserts how an agenda ends of which reads give only so many bytes: it writes nothing, and all blocks come back.
 fn is_cut<H: Host + Abort>(rt: &H, alloc: Global, bytes: &[u8], cut: u64)
 where

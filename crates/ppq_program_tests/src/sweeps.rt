@@ -390,6 +390,24 @@ fn chains_stars_and_an_edge_a_thousand_times_have_the_levels_of_the_rule(rt: Hos
 }
 
 #[test]
+fn a_graph_above_64_kilobytes_is_swept(rt: HostRuntime) {
+    let alloc = rt.alloc();
+    let mut edges = Vec::new(alloc);
+    let mut text = "".to_string(alloc).expect(&rt, "memory");
+    for node in 0..4_200u64 {
+        edges.push((node, 4_200)).expect(&rt, "memory");
+        let line = format!(in alloc; "{node} 0\n").expect(&rt, "memory");
+        text.push_str(line.as_str()).expect(&rt, "memory");
+    }
+    text.push_str("4200 1\n").expect(&rt, "memory");
+    let bytes = bytes_of(&rt, alloc, &edges);
+    assert!(rt; bytes.len() > 65_536);
+    let line =
+        "sweep g --device d --blocks 400 --workers 2 --block 64 --heap 1 --memory 20000 --nodes 4201";
+    does(&rt, alloc, line, &bytes, (0, text.as_bytes(), b""));
+}
+
+#[test]
 fn a_device_without_room_for_the_edges_has_no_free_block(rt: HostRuntime) {
     let alloc = rt.alloc();
     let bytes = bytes_of(&rt, alloc, &graph(&rt, alloc, 1));
