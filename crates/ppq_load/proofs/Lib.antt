@@ -10,4 +10,5 @@ pub mod PieceRecords
 pub mod Reading
 pub mod Refusals
 pub mod Results
+pub mod Sequence
 pub mod Strides

@@ -10,3 +10,4 @@ pub mod Generating
 pub mod Given
 pub mod Loading
 pub mod Refusal
+pub mod Sequence

@@ -9,11 +9,13 @@ mod fault;
 mod file;
 mod generate;
 mod generator;
+mod laws;
 mod piece;
 
 pub use fault::LoadFault;
 pub use file::load_file;
 pub use generate::load_generated;
+pub use laws::generated_laws;
 pub use piece::Piece;
 pub use ppq_files::{Context, FileFault, Pieces};
 pub use ppq_session::{
