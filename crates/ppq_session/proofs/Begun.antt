@@ -17,6 +17,7 @@ use Rattle.ppq_session.specs.declared.fault.BeginFault.{BeginFault}
 use Rattle.ppq_session.specs.declared.fault.BeginFault.TheVariants.{Memory}
 use Rattle.ppq_session.specs.Opened.{HandedOut, BulkBegan, HoldsNoSlot}
 use Rattle.ppq_session.specs.Sessions.{IsUnbegun}
+use Rattle.ppq_session.specs.Readied.{IsReadyForBulk, IsReadyForLimit}
 use Rattle.ppq_session.proofs.Mapped.{all_mapped}
 use Rattle.std.proofs.lemmas.List.{length-map, nil_from_length}
 use Rattle.std.proofs.lemmas.List.Elements.{All-nil, All-cons, All-head, All-tail}
@@ -52,6 +53,14 @@ keeps-begun old new kept = record { sizes = kept.sizes; limited = kept.limited; 
 -- a queue that has what it had was handed back for want of memory
 pub unbegun-memory : {R : Type 0} (old begun new : Holding R) → SameRecords old new → Keeps begun new → new.peak ≡ old.peak → CountsAs (beginning old.counts) old new → IsUnbegun old begun new Memory
 unbegun-memory old begun new same kept peak counted = record { why = record { bag = same.bag; size = same.size; sound = same.sound }; kept = kept; peak = peak; counted = counted }
+
+-- it was ready for a bulk session
+pub ready-bulk : {R : Type 0} (old new : Holding R) → SameRecords old new → new.in_extract ≡ 0 → new.runs ≤ 64 → new.in_heap ≡ old.in_heap → new.in_first ≡ old.in_first → pool_of new.sizes ≤ 2 * new.idle → IsReadyForBulk old new
+ready-bulk old new same emptied settled heaps first half = record { readied = record { same = same; emptied = emptied; settled = settled }; heaps = heaps; first = first; half = half }
+
+-- or for a limit session
+pub ready-limit : {R : Type 0} (old new : Holding R) → SameRecords old new → new.in_extract ≡ 0 → new.runs ≤ 64 → new.in_heap ≡ 0 → IsReadyForLimit old new
+ready-limit old new same emptied settled heaps = record { readied = record { same = same; emptied = emptied; settled = settled }; heaps = heaps }
 
 -- what a beginning returns
 abbrev pub Begins : Type 0 → Type 0 → Type 0

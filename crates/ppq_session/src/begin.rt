@@ -4,6 +4,7 @@ ghost use Rattle.ppq_session.specs.declared.fault.BeginFault.TheVariants.{Memory
 ghost use Rattle.ppq_session.specs.Opened.{IsOpened, HandedOut, BulkBegan};
 ghost use Rattle.ppq_queue.specs.Holding.{Holding, session_begun};
 ghost use Rattle.ppq_session.specs.Sessions.{IsUnbegun};
+ghost use Rattle.ppq_session.specs.Readied.{MemoryLeavesBulkReady};
 ghost use Rattle.ppq_session.specs.Outfits.{ServeWorkers};
 ghost use Rattle.ppq_pass.specs.ppq_pool.Seats.{count_of};
 
@@ -27,8 +28,10 @@ use std::alloc::Global;
 ///
 /// A session is to be ended with all its passes: what is dropped before takes its blocks and records along.
 ///
-/// Each refusal hands the queue back. `Memory` and `NoFreeBlock`: its multiset is as it was. `Device`: the
-/// block with that number failed, now or before. The queue counts the session whatever is returned.
+/// Each refusal hands the queue back. `Memory` and `NoFreeBlock`: its multiset is as it was. `Memory` comes
+/// after all stores and merges, so the extract buffer is empty then, levels are settled, and half of the
+/// pool is idle. `Device`: the block with that number failed, now or before. The queue counts the session
+/// whatever is returned.
 pub fn bulk_begin<H: Host, S: Slot + Send + Sync, R: Record + Send + Sync, G: Gate>(
     rt: &H,
     alloc: Global,
@@ -39,6 +42,7 @@ where
     H::Dir: Send,
     ensures begun { IfOk result (λ r. BulkBegan S.shown q r.0 r.1 r.2.items) }
     ensures refused { IfErr result (λ e. IsUnbegun q q e.0 e.1) }
+    ensures memory { IfErr result (λ e. MemoryLeavesBulkReady q e.0 e.1) }
     ensures latched { (number : ℕ) → q.failed ≡ Some number → result ≡ Err (session_begun q, Device number) }
 {
     let mut q = q;

@@ -2,6 +2,7 @@
 ghost use Rattle.std.specs.Prelude.{◌≡◌, ℕ, Some, Err, IfOk, IfErr};
 ghost use Rattle.ppq_session.specs.declared.fault.BeginFault.TheVariants.{Device};
 ghost use Rattle.ppq_session.specs.Sessions.{IsUnbegun};
+ghost use Rattle.ppq_session.specs.Readied.{MemoryLeavesLimitReady};
 ghost use Rattle.ppq_session.specs.LimitSessions.{begun_in};
 ghost use Rattle.ppq_session.specs.LimitSession.{IsAllRuns, front_begun, CanLimit, GotLimit, LimitBegan};
 
@@ -17,7 +18,8 @@ use std::alloc::Global;
 /// The rest of the extract buffer and each heap that is not empty are sorted and stored as runs first, and
 /// levels are merged. It allocates what the passes keep, and nothing is allocated later.
 ///
-/// Each refusal hands the queue back. `Memory` and `NoFreeBlock`: its multiset is as it was. `Device`: the
+/// Each refusal hands the queue back. `Memory` and `NoFreeBlock`: its multiset is as it was. `Memory` comes
+/// after all stores and merges, so all records are in runs then, and levels are settled. `Device`: the
 /// block with that number failed, now or before. The queue counts the session whatever is returned.
 pub fn limit_begin<H: Host, S: Slot + Send + Sync, R: Record + Send + Sync, G: Gate>(
     rt: &H,
@@ -30,6 +32,7 @@ where
     H::Dir: Send,
     ensures begun { IfOk result (λ r. LimitBegan q l r.0 r.1 r.2.items) }
     ensures refused { IfErr result (λ e. IsUnbegun q (begun_in q) e.0 e.1) }
+    ensures memory { IfErr result (λ e. MemoryLeavesLimitReady q e.0 e.1) }
     ensures latched { (number : ℕ) → q.failed ≡ Some number → result ≡ Err (begun_in q, Device number) }
 {
     let mut q = q;

@@ -5,7 +5,7 @@ use ppq_pass::QueueFault;
 /// Why a session did not begin. The queue has the records that it had, but after `Device`.
 #[derive(Clone, Copy, Debug, PartialEq, Eq)]
 pub enum BeginFault {
-    /// An allocation for what the passes keep failed.
+    /// An allocation for what the passes keep failed, after all stores and merges of the beginning.
     Memory,
     /// The rest of the extract buffer, or a heap that a limit session stores, found neither buffers nor
     /// blocks, or a merge of levels found no blocks.

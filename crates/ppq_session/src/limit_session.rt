@@ -9,6 +9,7 @@ ghost use Rattle.ppq_session.specs.Dealing.{EachAdds, records_in, records_for};
 ghost use Rattle.ppq_session.specs.Asks.{answers_to, left_after, removed_in, pops_in};
 ghost use Rattle.ppq_session.specs.Batches.{passes_of};
 ghost use Rattle.ppq_session.specs.Sessions.{IsUnbegun};
+ghost use Rattle.ppq_session.specs.Readied.{MemoryLeavesLimitReady};
 ghost use Rattle.ppq_session.specs.LimitSessions.{AreGoing, HasStopped, InLimits, IsOver, IsOverBy, begun_in};
 
 use crate::begin_limit::limit_begin;
@@ -64,6 +65,7 @@ impl<S: Slot + Send + Sync, R: Record + Send + Sync> LimitSession<S, R> {
         ensures session { IfOk result (λ session. InLimits S.shown queue limit [] queue.bag 0 session) }
         ensures going { IfOk result AreGoing }
         ensures refused { IfErr result (λ back. IsUnbegun queue (begun_in queue) back.0 back.1) }
+        ensures memory { IfErr result (λ back. MemoryLeavesLimitReady queue back.0 back.1) }
         ensures latched { (number : ℕ) → queue.failed ≡ Some number → result ≡ Err (begun_in queue, Device number) }
     {
         match limit_begin(rt, alloc, queue, limit, gate) {

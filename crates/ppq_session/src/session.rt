@@ -5,6 +5,7 @@ ghost use Rattle.ppq_session.specs.declared.fault.BeginFault.TheVariants.{Device
 ghost use Rattle.ppq_session.specs.Ends.{NamesFirst};
 ghost use Rattle.ppq_session.specs.Dealing.{IsGoing, HasEnded, EachAdds, records_in, records_for, part_for};
 ghost use Rattle.ppq_session.specs.Sessions.{InSession, IsLoaded, IsLeftBy, IsUnbegun};
+ghost use Rattle.ppq_session.specs.Readied.{MemoryLeavesBulkReady};
 
 use crate::begin::bulk_begin;
 use crate::dealing::deal;
@@ -59,6 +60,7 @@ impl<S: Slot + Send + Sync, R: Record + Send + Sync> Session<S, R> {
         ensures session { IfOk result (λ session. InSession S.shown queue [] session) }
         ensures going { IfOk result (λ session. All IsGoing session.passes) }
         ensures refused { IfErr result (λ back. IsUnbegun queue queue back.0 back.1) }
+        ensures memory { IfErr result (λ back. MemoryLeavesBulkReady queue back.0 back.1) }
         ensures latched { (number : ℕ) → queue.failed ≡ Some number → result ≡ Err (session_begun queue, Device number) }
     {
         match bulk_begin(rt, alloc, queue, gate) {

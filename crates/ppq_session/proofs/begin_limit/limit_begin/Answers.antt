@@ -2,9 +2,10 @@ use Rattle.std.proofs.Common.{◌≡◌, ℕ, ◌∙◌, ap₂, sym, subst, arit
 use Rattle.std.specs.Prelude.{Err}
 use Rattle.ppq_queue.specs.Holding.{MetFault, IsRefusal}
 use Rattle.ppq_session.specs.Sessions.{IsUnbegun}
+use Rattle.ppq_session.specs.Readied.{MemoryLeavesLimitReady}
 use Rattle.ppq_session.specs.LimitSessions.{begun_in}
 use Rattle.ppq_session.specs.declared.fault.BeginFault.TheVariants.{Device}
-use Rattle.ppq_session.proofs.Begun.{keeps-begun, unbegun-memory, handed_nothing, handed_count, limit_began}
+use Rattle.ppq_session.proofs.Begun.{keeps-begun, unbegun-memory, ready-limit, handed_nothing, handed_count, limit_began}
 use Rattle.ppq_session.proofs.begin_limit.limit_begin.Goals as goal
 
 pub limit_passes-passes-requires-after_bounds : goal.limit_passes-passes-requires-after_bounds
@@ -38,6 +39,7 @@ returns-in_default g c =
     record {
       begun = tt;
       refused = unbegun-memory c.args.q (begun_in c.args.q) c.store_heaps.new.self c.in-Ok.ensures.same (keeps-begun c.args.q c.store_heaps.new.self e.stays.keeps) e.stays.peak e.counted;
+      memory = ready-limit c.args.q c.store_heaps.new.self c.in-Ok.ensures.same c.in-Ok.ensures.emptied c.in-Ok.ensures.settled c.in-Ok.ensures.heaps;
       latched = λ number latched. let said = (e.latched number latched).0 in cc;
     }
 
@@ -47,6 +49,7 @@ returns-in-Err g c =
     record {
       begun = tt;
       refused = subst (λ e. IsUnbegun c.args.q (begun_in c.args.q) e.0 e.1) (sym c.in-Err.ensures.back) (unbegun-memory c.args.q (begun_in c.args.q) c.store_heaps.new.self c.in-Ok.ensures.same (keeps-begun c.args.q c.store_heaps.new.self e.stays.keeps) e.stays.peak e.counted);
+      memory = subst (λ e. MemoryLeavesLimitReady c.args.q e.0 e.1) (sym c.in-Err.ensures.back) (ready-limit c.args.q c.store_heaps.new.self c.in-Ok.ensures.same c.in-Ok.ensures.emptied c.in-Ok.ensures.settled c.in-Ok.ensures.heaps);
       latched = λ number latched. let said = (e.latched number latched).0 in cc;
     }
 
@@ -57,6 +60,7 @@ returns-in-Err-NoFreeBlock g c =
     record {
       begun = tt;
       refused = record { why = subst (IsRefusal c.args.q c.store_heaps.new.self) arm.field-0-is arm.ensures.refused; kept = keeps-begun c.args.q c.store_heaps.new.self e.stays.keeps; peak = e.stays.peak; counted = e.counted };
+      memory = tt;
       latched = λ number latched. let said = (e.latched number latched).0 in cc;
     }
 
@@ -69,6 +73,7 @@ returns-in-Err-Device g c =
     record {
       begun = tt;
       refused = record { why = subst (λ (n : ℕ). MetFault n c.args.q new) (sym arm.number-is) stopped; kept = keeps-begun c.args.q c.store_heaps.new.self e.stays.keeps; peak = e.stays.peak; counted = e.counted };
+      memory = tt;
       latched = λ number latched.
           let both = e.latched number latched in
           let said = both.0 in
