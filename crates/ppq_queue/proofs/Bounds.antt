@@ -1,6 +1,6 @@
 -- The bounds of a queue whose runs are at rest: buffers, records, blocks.
 use Rattle.std.proofs.Common.{◌≡◌, ℕ, ◌+◌, ◌-◌, ◌*◌, ◌/◌, ◌<◌, ◌≤◌, List, [], ◌++◌, length, max, sum_by, sym, ap, arith, inl, inr, length-append}
-use Rattle.std.specs.Prelude.{flat_map, vec_capacity, ◌⊎◌}
+use Rattle.std.specs.Prelude.{flat_map, vec_capacity, min, ◌⊎◌}
 use Rattle.std.proofs.lemmas.Nat.{mul-le}
 use Rattle.std.proofs.lemmas.List.Sums.{sum_by-append}
 use Rattle.ppq_extract.proofs.ppq_array.Noted.{all_left}
@@ -14,9 +14,10 @@ use Rattle.ppq_extract.specs.ppq_array.Holdings.{internal_items, internal_buffer
 use Rattle.ppq_extract.specs.ppq_fetch.Fetching.{blocks_in}
 use Rattle.ppq_spill.specs.Body.{job_slots}
 use Rattle.ppq_spill.specs.declared.body.PassBody.{PassBody}
+use Rattle.ppq_queue.specs.Holding.{AreUsed}
 use Rattle.ppq_queue.specs.Resting.{AtRest, runs_bag, count_of, slots_of, odd_in, IsShort}
-use Rattle.ppq_queue.proofs.Amounts.{arrays_length, runs_some, runs_fit, internal_count, stored_slots, arrays_fit, arrays_written}
-use Rattle.ppq_queue.proofs.Odd.{arrays_full, runs_most}
+use Rattle.ppq_queue.proofs.Amounts.{arrays_length, runs_some, runs_fit, internal_count, stored_slots, arrays_fit, arrays_written, count_some}
+use Rattle.ppq_queue.proofs.Odd.{arrays_full, runs_most, odd_most}
 
 -- the pool is within the budget
 pub pool_within : (n : Numbers) → fixed_of n ≤ n.memory → fixed_of n + pool_of n * n.block ≤ n.memory
@@ -149,6 +150,43 @@ module _ {S R : Type 0} (shown : S → Shown) (cmp : R → R → Ordering) (reco
         arrays_length record_of width shown stock.block body.runs.external.items rest.external told,
       )
 
+  -- a slot is free, or a run has it
+  pub slots_used : Rests → length (slots_of shown body stock) ≡ blocks_in body.runs.external.items + length stock.kept
+  slots_used rest =
+      omega (
+        arith,
+        length-append (external_slots shown body.runs.external.items ++ job_slots shown body.lanes.jobs.items) stock.kept,
+        length-append (external_slots shown body.runs.external.items) (job_slots shown body.lanes.jobs.items),
+        ap (λ l. length (job_slots shown l)) rest.no_job,
+        stored_slots shown body.runs.external.items,
+      )
+
+  -- what the stored blocks, and the buffers that are not idle, are used for
+  pub are_used : Rests → (used busy : ℕ) → used ≡ blocks_in body.runs.external.items → busy ≡ lane_buffers n + pool_of n - stock.sure_buffers → AreUsed n used busy (length body.runs.external.items) (count_of body)
+  are_used rest used busy stored out =
+      let i = internal_buffers body.runs.internal.items in
+      let e = external_buffers body.runs.external.items in
+      let k = blocks_in body.runs.external.items in
+      let w = odd_in stock.block body.runs.external.items in
+      let m = min (length body.runs.external.items) 65 in
+      let full = arrays_full stock.block shown width body.runs.external.items rest.external in
+      let int = runs_fit stock.block body.runs.internal.items rest.internal in
+      let ext = arrays_fit shown width stock.block body.runs.external.items rest.external in
+      let at_i : i * stock.block ≡ i * n.block = ap (λ b. i * b) rest.block in
+      let at_e : e * stock.block ≡ e * n.block = ap (λ b. e * b) rest.block in
+      let at_k : k * stock.block ≡ k * n.block = ap (λ b. k * b) rest.block in
+      let at_w : w * stock.block ≡ w * n.block = ap (λ b. w * b) rest.block in
+      let few : w ≤ m = omega (arith, rest.few, odd_most stock.block body.runs.external.items) in
+      let odd : w * n.block ≤ m * n.block = mul-le-mul_right n.block few in
+      let used_is : used * n.block ≡ k * n.block = ap (λ x. x * n.block) stored in
+      let busy_most : i + e ≤ busy = omega (arith, rest.held, rest.buffers, rest.pool, out) in
+      let room : (i + e) * n.block ≤ busy * n.block = mul-le-mul_right n.block busy_most in
+      record {
+        some = omega (arith, count_some shown width stock.block body.runs.internal.items body.runs.external.items rest.internal rest.external);
+        filled = omega (arith, full, at_k, at_w, odd, used_is);
+        enough = omega (arith, int, ext, at_i, at_e, at_k, room, used_is, add-mul i e n.block, add-mul used busy n.block, internal_count body.runs.internal.items);
+      }
+
   -- a full device that a merge or a store found too small has less room than the peak needs
   pub room_short : Rests → AreInRange n → length (slots_of shown body stock) ≡ n.blocks → (records peak : ℕ) → count_of body ≤ records → records ≤ peak → IsShort n (length stock.kept) records → n.blocks < room_of n peak
   room_short rest range all records peak some most short =
@@ -160,16 +198,7 @@ module _ {S R : Type 0} (shown : S → Shown) (cmp : R → R → Ordering) (reco
       let sixty : w * n.block ≤ 65 * n.block = mul-le-mul_right n.block rest.few in
       let c = blocks_for n peak in
       let fill : peak ≤ c * n.block = enough peak in
-      let slots : n.blocks ≡ k + length stock.kept =
-      omega (
-        arith,
-        sym all,
-        length-append (external_slots shown body.runs.external.items ++ job_slots shown body.lanes.jobs.items) stock.kept,
-        length-append (external_slots shown body.runs.external.items) (job_slots shown body.lanes.jobs.items),
-        ap (λ l. length (job_slots shown l)) rest.no_job,
-        stored_slots shown body.runs.external.items,
-      )
-      in
+      let slots : n.blocks ≡ k + length stock.kept = omega (arith, sym all, slots_used rest) in
       let sum : (c + 65) * n.block ≡ c * n.block + 65 * n.block = add-mul c 65 n.block in
       let blocks : k * n.block < (c + 66) * n.block =
       omega (arith, full, a, b, sixty, fill, some, most, sum, add-mul c 66 n.block, range.two_records, internal_count body.runs.internal.items)

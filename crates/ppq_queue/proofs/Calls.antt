@@ -229,6 +229,7 @@ module _ {S R : Type 0} {shown : S → Shown} {cmp : R → R → Ordering} {reco
         emptied = ap (λ l. l.items) cleared;
         easy = λ none. not_sound number (sym is ∙ ap (λ q. q.failed) view ∙ none);
         crowded = λ err. cc;
+        scant = λ err. cc;
         refused = stopped.refused;
         latched = stopped.latched;
         size = omega (arith, ap (λ l. length l.items) cleared);
@@ -362,7 +363,8 @@ module _ {S R : Type 0} {shown : S → Shown} {cmp : R → R → Ordering} {reco
             took = front-called shown cmp record_of width x y h h' kept heaps count peak limited t t limit most less out fewer r o same sound took;
             emptied = gone;
             easy = λ unfailed all. taken_easy shown record_of width x y h h' count peak less limited t r (takes.easy (omega (arith, all, sound.counted)));
-            crowded = takes.crowded;
+            crowded = λ err. (takes.crowded err).level;
+            scant = λ err. (takes.crowded err).free;
             refused = refused-fewer shown cmp record_of width x y h h' kept heaps count peak limited t t limit most less out fewer r (latched r None) (refused-called shown cmp record_of width x y h h' kept heaps count peak limited t t r was_none sound why refused) gone;
             latched = λ number e. not_sound number (sym e);
             size = fewer;
@@ -381,7 +383,7 @@ bulk-at {cmp = cmp} {limit = limit} {old = old} {new = new} {was = was} {now = n
 module _ {R T U : Type 0} {cmp : R → R → Ordering} {limit : Option R} {most : ℕ} {old new : Holding R} {was now : Listed R} where
   -- a bulk pop that returns more
   pub bulk-answered : {v : T} {w : U} → BulkLeaves cmp limit most old new was now (Ok v) → BulkLeaves cmp limit most old new was now (Ok w)
-  bulk-answered one = record { took = one.took; emptied = tt; easy = λ none all. (refl, (one.easy none all).1); crowded = λ err. cc; refused = tt; latched = λ number e. absurd (let odd = (one.latched number e).0 in cc); size = one.size; list_room = one.list_room; peak = one.peak; counted = one.counted; keeps = one.keeps }
+  bulk-answered one = record { took = one.took; emptied = tt; easy = λ none all. (refl, (one.easy none all).1); crowded = λ err. cc; scant = λ err. cc; refused = tt; latched = λ number e. absurd (let odd = (one.latched number e).0 in cc); size = one.size; list_room = one.list_room; peak = one.peak; counted = one.counted; keeps = one.keeps }
 
   -- an error of a bulk pop that is handed on
   pub bulk-given : {r : Result T StoreFault} {e : StoreFault} → IsErrAnd r (λ given. given ≡ e) → BulkLeaves cmp {T = U} limit most old new was now (Err e) → BulkLeaves cmp limit most old new was now r
@@ -392,6 +394,7 @@ module _ {R T U : Type 0} {cmp : R → R → Ordering} {limit : Option R} {most 
         emptied = one.emptied;
         easy = λ none all. absurd (let odd = (one.easy none all).0 in cc);
         crowded = none_given (err_of T f) e is one.crowded;
+        scant = none_given (err_of T f) e is one.scant;
         refused = subst (IsRefusal old new) (sym is) one.refused;
         latched = λ number failed. (let same = one.latched number failed in (ap (err_of T) is ∙ err_on e number same.0, same.1));
         size = one.size;

@@ -200,7 +200,7 @@ module _ {S R : Type 0} {shown : S → Shown} {cmp : R → R → Ordering} {reco
   leaves-beside h {x = x} {y = y} {r = Err e} one = record { stays = one.stays; holds = tt; refused = refused-beside shown cmp record_of width h x y e one.refused }
 
   pub levels-same : {T : Type 0} {v : T} {x : Store S R} → MayWork shown cmp record_of width x → LevelsLeave shown cmp record_of width x x (Ok v)
-  levels-same works = record { leaves = leaves-same works; internal = refl; crowded = λ err. cc; pays = ok_pays (costs-same _) }
+  levels-same works = record { leaves = leaves-same works; internal = refl; crowded = λ err. absurd (cc); pays = ok_pays (costs-same _) }
 
   pub levels-after :
       {T U : Type 0} {v : U} {x y z : Store S R} {r : Result T StoreFault}
@@ -210,7 +210,7 @@ module _ {S R : Type 0} {shown : S → Shown} {cmp : R → R → Ordering} {reco
   pub levels-on :
       {T U : Type 0} {v : T} {u : U} {x y z : Store S R}
       → LevelsLeave shown cmp record_of width x y (Ok v) → LevelsLeave shown cmp record_of width y z (Ok u) → LevelsLeave shown cmp record_of width x z (Ok v)
-  levels-on one two = record { leaves = leaves-on one.leaves two.leaves; internal = two.internal ∙ one.internal; crowded = λ err. cc; pays = ok_pays (costs-then (pays_ok one.pays) (pays_ok two.pays)) }
+  levels-on one two = record { leaves = leaves-on one.leaves two.leaves; internal = two.internal ∙ one.internal; crowded = λ err. absurd (cc); pays = ok_pays (costs-then (pays_ok one.pays) (pays_ok two.pays)) }
 
   pub levels-given :
       {T U : Type 0} {x y : Store S R} {r : Result T StoreFault} {e : StoreFault}

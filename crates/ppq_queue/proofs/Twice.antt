@@ -87,7 +87,7 @@ module _ {S R : Type 0} (shown : S → Shown) where
             levels = record {
               leaves = record { stays = stays-step x b t src kept no_row' rests; holds = holds; refused = tt };
               internal = int;
-              crowded = λ err. cc;
+              crowded = λ err. absurd (cc);
               pays = pays-leveled shown n a b s t rest.block no_row no_row' done rest.no_job lanes.no_job (ap (λ v. v.items) int) step.counted;
             };
             lower = lower-leveled cmp record_of width shown level a.runs.external.items b.runs.external.items s t at_most step.merged;
@@ -128,7 +128,7 @@ module _ {S R : Type 0} (shown : S → Shown) where
             levels = record {
               leaves = record { stays = stays-step x b t src kept no_row' rests; holds = tt; refused = subst (HasFailed number) (sym (slots-no_job shown b t lanes.no_job)) ends.1 };
               internal = int;
-              crowded = λ err. cc;
+              crowded = λ err. absurd (cc);
               pays = pays-leveled shown x.sizes x.body b x.supply t rest.block works.runs.no_row no_row' (Err (Device number)) rest.no_job lanes.no_job (ap (λ v. v.items) int) p.counted;
             };
             lower = tt;

@@ -16,8 +16,8 @@ use Rattle.ppq_queue.specs.Choice.{goes_first}
 use Rattle.ppq_queue.specs.Out.{Listed, listed}
 use Rattle.ppq_queue.specs.Paying.{store_account}
 use Rattle.ppq_queue.specs.Holding.{Holding, Keeps, IsRefusal, NamesAgain, CountsAs}
-use Rattle.ppq_queue.specs.Resting.{count_of, crowd_of}
-use Rattle.ppq_queue.specs.Stores.{MayWork, StoreKept, HeapsStay, Refuses, stored, slots_in, whole_bag}
+use Rattle.ppq_queue.specs.Resting.{count_of}
+use Rattle.ppq_queue.specs.Stores.{MayWork, StoreKept, IsCrowded, HeapsStay, Refuses, stored, slots_in, whole_bag}
 use Rattle.ppq_queue.specs.declared.store.Store.{Store}
 use Rattle.ppq_queue.specs.declared.limit_end.LimitEnd.{LimitEnd}
 use Rattle.ppq_queue.specs.declared.limit_end.LimitEnd.TheVariants.{All, More, Round}
@@ -130,13 +130,14 @@ module _ {R : Type 0} (cmp : R → R → Ordering) where
     pub quiet : AreQuiet old.slots new.slots
 
   -- What a bulk pop leaves of a queue and of its list: the smallest records were taken if it is Ok; none is returned if it is not; where no run has a
-  -- record, no slot and no run has changed; where no block was free, a level has more than 8 runs; what else a refusal means; the queue counts as many
-  -- fewer as are in the list; and what stays whatever is returned, its three numbers among it
+  -- record, no slot and no run has changed; where no block was free, a level has more than 8 runs, and fewer slots are free than a merge of it may want;
+  -- what else a refusal means; the queue counts as many fewer as are in the list; and what stays whatever is returned, its three numbers among it
   pub record BulkLeaves {T : Type 0} (limit : Option R) (most : ℕ) (old new : Holding R) (was now : Listed R) (r : Result T StoreFault) : Type 0 where
     pub took : OnOk r (TookFront limit most old new now.items)
     pub emptied : OnErr r (now.items ≡ [])
     pub easy : old.failed ≡ None → old.size ≡ old.in_heap + old.in_extract → IsOk r × (new ≡ record old { bag = new.bag; size = new.size; in_heap = new.in_heap; in_first = new.in_first; in_extract = new.in_extract })
     pub crowded : IsErrOf r NoFreeBlock → 8 < new.crowd
+    pub scant : IsErrOf r NoFreeBlock → new.free < 8 + new.sizes.workers
     pub refused : IfErr r (IsRefusal old new)
     pub latched : NamesAgain old new r
     pub size : new.size ≡ old.size - length now.items
@@ -165,7 +166,7 @@ module _ {S R : Type 0} (shown : S → Shown) (cmp : R → R → Ordering) (reco
     pub ready : (l : R) → limit ≡ Some l → new.extract.items ≡ [] → count_of new.body ≡ 0
 
   -- what a bulk pop leaves of heaps and the store: what stays whatever is returned; all that was wanted was taken if it is Ok; what a refusal means, and
-  -- that the heaps are as they were where no block was free, and a level has more than 8 runs; where no run has a record, nothing is done but to the
+  -- that the heaps are as they were where no block was free, and a level is crowded; where no run has a record, nothing is done but to the
   -- heaps and the extract buffer; and it costs nothing
   pub record TakesOut {T : Type 0} (limit : Option R) (most : ℕ) (before after : Shares R) (old new : Store S R) (was now : Listed R) (r : Result T StoreFault) : Type 0 where
     pub kept : StoreKept shown old new
@@ -174,6 +175,6 @@ module _ {S R : Type 0} (shown : S → Shown) (cmp : R → R → Ordering) (reco
     pub took : OnOk r (TookAll limit most (items_of before) (items_of after) old new now.items)
     pub same_heaps : IsErrOf r NoFreeBlock → after ≡ before
     pub easy : count_of old.body ≡ 0 → IsOk r × (new ≡ record old { extract = new.extract })
-    pub crowded : IsErrOf r NoFreeBlock → 8 < crowd_of new.body.runs.external.items
+    pub crowded : IsErrOf r NoFreeBlock → IsCrowded new
     pub refused : IfErr r (Refuses shown cmp record_of width [] [] old new)
     pub pays : Pays r 0 0 (store_account shown old) (store_account shown new)

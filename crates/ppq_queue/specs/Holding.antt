@@ -1,5 +1,5 @@
 -- What a queue holds.
-use Rattle.std.specs.Prelude.{◌≡◌, ◌<◌, ◌≤◌, ◌+◌, ◌-◌, ◌*◌, ◌↔◌, ℕ, Bool, true, false, cond, nat_lt, List, ◌∷◌, length, max, Option, Some, None, IsNone, Result, Ok, Err, OnOk, OnErr, IfErr, ⊤, All}
+use Rattle.std.specs.Prelude.{◌≡◌, ◌<◌, ◌≤◌, ◌+◌, ◌-◌, ◌*◌, ◌↔◌, ℕ, Bool, true, false, cond, nat_lt, List, ◌∷◌, length, max, min, Option, Some, None, IsNone, Result, Ok, Err, OnOk, OnErr, IfErr, ⊤, All}
 use Rattle.std.specs.declared.cmp.Ordering.{Ordering}
 use Rattle.ppq_heap.specs.ppq_record.Bag.{IsSameBag, least, without_front}
 use Rattle.ppq_extract.specs.ppq_budget.Sizes.{Numbers, fixed_of, batch_of, heap_of, blocks_for, room_of}
@@ -46,6 +46,23 @@ in_use q = length q.slots - q.free
 -- dealt and one that is given out, both counted as full, and a block for each buffer that exists
 abbrev pub resident_of : {R : Type 0} → Holding R → ℕ
 resident_of q = q.in_heap + q.in_extract + in_use q + 2 * batch_of q.sizes + q.buffers * q.sizes.block
+
+-- how many records its runs have
+abbrev pub in_runs : {R : Type 0} → Holding R → ℕ
+in_runs q = q.size - q.in_heap - q.in_extract
+
+-- What so many blocks and so many buffers are used for, where so many runs in blocks are there, and all runs have so many records. Each run in
+-- blocks has a record. A block in use is full of records but for one of each run, and but for 65 in all. And no record is anywhere else: the
+-- blocks and the buffers have room for all
+pub record AreUsed (sizes : Numbers) (blocks buffers runs records : ℕ) : Type 0 where
+  pub some : runs ≤ records
+  pub filled : blocks * sizes.block ≤ records + min runs 65 * sizes.block
+  pub enough : records ≤ (blocks + buffers) * sizes.block
+
+-- what the blocks in use, and the buffers that are not idle, are used for
+pub record UsesBlocks {R : Type 0} (q : Holding R) : Type 0 where
+  pub apart : q.in_heap + q.in_extract ≤ q.size
+  pub used : AreUsed q.sizes (in_use q) (q.buffers - q.idle) q.runs (in_runs q)
 
 -- a slot of so many bytes that was not called yet
 pub record IsNewSlot (bytes : ℕ) (slot : Shown) : Type 0 where

@@ -16,6 +16,7 @@ pub mod Bulk
 pub mod Choice
 pub mod Handed
 pub mod Holding
+pub mod Laws
 pub mod Out
 pub mod Paying
 pub mod Resting

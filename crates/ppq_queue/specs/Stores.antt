@@ -38,6 +38,11 @@ module _ {S R : Type 0} where
     pub no_extract : store.extract.items ≡ []
     pub few : length store.body.runs.external.items ≤ 64
 
+  -- a level has more than 8 runs, and so few slots are free that a merge of it may want more
+  pub record IsCrowded (store : Store S R) : Type 0 where
+    pub level : 8 < crowd_of store.body.runs.external.items
+    pub free : length store.supply.kept < 8 + store.sizes.workers
+
   -- at least half of the pool's buffers are idle, and there is room for one run in blocks more
   pub record IsHalfIdle (store : Store S R) : Type 0 where
     pub few : length store.body.runs.external.items ≤ 64
@@ -168,12 +173,12 @@ module _ {S R : Type 0} (shown : S → Shown) where
       pub holds : OnOk r (Holds heap heap' old new)
       pub refused : IfErr r (Refuses heap heap' old new)
 
-    -- what a merge of levels leaves: the same; the runs in buffers are as they were; where no block was free, a level has more than 8 runs; and it
-    -- costs no more than its runs owed
+    -- what a merge of levels leaves: the same; the runs in buffers are as they were; a level is crowded where no block was free; and it costs no more
+    -- than its runs owed
     pub record LevelsLeave {T : Type 0} (old new : Store S R) (r : Result T StoreFault) : Type 0 where
       pub leaves : StoreLeaves [] [] old new r
       pub internal : new.body.runs.internal ≡ old.body.runs.internal
-      pub crowded : IsErrOf r NoFreeBlock → 8 < crowd_of new.body.runs.external.items
+      pub crowded : IsErrOf r NoFreeBlock → IsCrowded new
       pub pays : Pays r 0 0 (store_account shown old) (store_account shown new)
 
     -- what a merge of one level leaves: the same; and lower levels have as many runs as before
@@ -208,12 +213,12 @@ module _ {S R : Type 0} (shown : S → Shown) where
       pub failed : IfErr r (FailsAlone new)
       pub pays : Pays r 0 0 (store_account shown old) (store_account shown new)
 
-    -- what a call leaves that makes a store ready: nothing is done where the extract buffer has a record, or no run has one; and where no block
-    -- was free, a level has more than 8 runs
+    -- what a call leaves that makes a store ready: nothing is done where the extract buffer has a record, or no run has one; and a level is
+    -- crowded where no block was free
     pub record MakesReady {T : Type 0} (old new : Store S R) (r : Result T StoreFault) : Type 0 where
       pub kept : StoreKept old new
       pub readied : OnOk r (Readies old new)
       pub easy : (0 < length old.extract.items) ⊎ (count_of old.body ≡ 0) → IsOk r × (new ≡ old)
-      pub crowded : IsErrOf r NoFreeBlock → 8 < crowd_of new.body.runs.external.items
+      pub crowded : IsErrOf r NoFreeBlock → IsCrowded new
       pub refused : IfErr r (Refuses [] [] old new)
       pub pays : Pays r 0 0 (store_account shown old) (store_account shown new)

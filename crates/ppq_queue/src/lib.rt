@@ -15,6 +15,7 @@ mod choice;
 mod fault;
 mod flush;
 mod heaps;
+mod laws;
 mod limit_end;
 mod out;
 mod parts;
@@ -26,6 +27,7 @@ mod store;
 mod wanted;
 
 pub use fault::OpenFault;
+pub use laws::{blocks_are_used, writes_are_few};
 pub use limit_end::LimitEnd;
 pub use out::Out;
 pub use ppq_extract::{

@@ -9,7 +9,7 @@ ghost use Rattle.ppq_spill.specs.ppq_counts.Account.{too_heavy};
 ghost use Rattle.ppq_spill.specs.ppq_counts.Tally.{no_tally, accepting, beginning, IsCounting, runs_of, bound_of};
 ghost use Rattle.ppq_queue.specs.Bulk.{IsEnd, EndsBy, BulkLeaves};
 ghost use Rattle.ppq_queue.specs.Handed.{holding_of, IsWhole};
-ghost use Rattle.ppq_queue.specs.Holding.{resident_of, with_one, IsAbove, NamesNeed, AreNewSlots, IsReady, IsRefusal, IsLeast, TookLeast, Keeps, Stays, SameRecords, QueueLeaves, HasAdded, HasTaken, MayPut, CountsAs, CountsPush, CountsRoom, CountsStore, session_begun, limit_begun};
+ghost use Rattle.ppq_queue.specs.Holding.{resident_of, with_one, IsAbove, NamesNeed, AreNewSlots, IsReady, IsRefusal, IsLeast, TookLeast, Keeps, Stays, SameRecords, QueueLeaves, HasAdded, HasTaken, MayPut, CountsAs, CountsPush, CountsRoom, CountsStore, UsesBlocks, session_begun, limit_begun};
 
 use crate::berths::{berth_slots, give_back};
 use crate::bulk::{empty_on_error, keep_below};
@@ -119,8 +119,8 @@ impl<S: Slot + Send + Sync, R: Record + Send + Sync> Queue<S, R> {
     /// stored as runs first, and levels of runs are merged.
     ///
     /// Each refusal hands the record back. `NoFreeBlock`: the multiset is as it was; the device has fewer blocks
-    /// than are enough for the peak, and the peak is above what a heap holds, unless a limit session was
-    /// begun. `Device`: a call of the block with that number failed, now or before. From then on the queue is
+    /// than are enough for the peak, and even for the records that are there now (`blocks_are_used`); and the
+    /// peak is above what a heap holds, unless a limit session was begun. `Device`: a call of the block with that number failed, now or before. From then on the queue is
     /// stopped: each later call of it returns that number and changes nothing (`begin_session` and `store_heaps`
     /// count a session all the same, and the latter notes a limit session), while `size`, `resident` and `close`
     /// return what they did.
@@ -215,6 +215,7 @@ impl<S: Slot + Send + Sync, R: Record + Send + Sync> Queue<S, R> {
         ensures readied { OnOk result (IsReady self.new) }
         ensures easy { self.old.failed ≡ None → (0 < self.old.in_extract) ⊎ (self.old.size ≡ self.old.in_heap) → IsOk result × (self.new ≡ self.old) }
         ensures crowded { IsErrOf result NoFreeBlock → 8 < self.new.crowd }
+        ensures scant { IsErrOf result NoFreeBlock → self.new.free < 8 + self.new.sizes.workers }
     {
         if let Some(number) = self.failed {
             return Err(QueueFault::Device { number });
@@ -247,7 +248,8 @@ impl<S: Slot + Send + Sync, R: Record + Send + Sync> Queue<S, R> {
     /// Where the extract buffer is empty and there are runs, levels of runs are merged and it is refilled first.
     /// Only then a block is called: where the extract buffer has a record, or no run has one, nothing is done.
     ///
-    /// `NoFreeBlock` and `Device` come as from `push`; the former only while a level has more than 8 runs.
+    /// `NoFreeBlock` and `Device` come as from `push`; the former only while a level has more than 8 runs, and fewer
+    /// blocks are free than 8 and one for each worker.
     pub fn top<H: Host, G: Gate>(&mut self, rt: &H, gate: &G) -> Result<Option<R>, QueueFault>
     where
         H::Dir: Send,
@@ -256,6 +258,7 @@ impl<S: Slot + Send + Sync, R: Record + Send + Sync> Queue<S, R> {
         ensures same { OnOk result (SameRecords self.old self.new) }
         ensures easy { self.old.failed ≡ None → (0 < self.old.in_extract) ⊎ (self.old.size ≡ self.old.in_heap) → IsOk result × (self.new ≡ self.old) }
         ensures crowded { IsErrOf result NoFreeBlock → 8 < self.new.crowd }
+        ensures scant { IsErrOf result NoFreeBlock → self.new.free < 8 + self.new.sizes.workers }
         ensures refused { IfErr result (IsRefusal self.old self.new) }
         ensures latched { (number : ℕ) → self.old.failed ≡ Some number → (result ≡ Err (Device number)) × (self.new ≡ self.old) }
         ensures counted { CountsAs self.old.counts self.old self.new }
@@ -271,7 +274,8 @@ impl<S: Slot + Send + Sync, R: Record + Send + Sync> Queue<S, R> {
     /// merged and it is refilled first. Only then a block is called: where the extract buffer has a record, or
     /// no run has one, the record is taken out and nothing else is done.
     ///
-    /// `NoFreeBlock` and `Device` come as from `push`; the former only while a level has more than 8 runs.
+    /// `NoFreeBlock` and `Device` come as from `push`; the former only while a level has more than 8 runs, and fewer
+    /// blocks are free than 8 and one for each worker.
     pub fn pop<H: Host, G: Gate>(&mut self, rt: &H, gate: &G) -> Result<Option<R>, QueueFault>
     where
         H::Dir: Send,
@@ -280,6 +284,7 @@ impl<S: Slot + Send + Sync, R: Record + Send + Sync> Queue<S, R> {
         ensures taken { OnOk result (HasTaken R.Ord.cmp self.old self.new) }
         ensures easy { self.old.failed ≡ None → (0 < self.old.in_extract) ⊎ (self.old.size ≡ self.old.in_heap) → IsOk result × (self.new ≡ record self.old { bag = self.new.bag; size = self.old.size - 1; in_heap = self.new.in_heap; in_first = self.new.in_first; in_extract = self.new.in_extract }) }
         ensures crowded { IsErrOf result NoFreeBlock → 8 < self.new.crowd }
+        ensures scant { IsErrOf result NoFreeBlock → self.new.free < 8 + self.new.sizes.workers }
         ensures refused { IfErr result (IsRefusal self.old self.new) }
         ensures latched { (number : ℕ) → self.old.failed ≡ Some number → (result ≡ Err (Device number)) × (self.new ≡ self.old) }
         ensures peak { self.new.peak ≡ self.old.peak }
@@ -296,8 +301,8 @@ impl<S: Slot + Send + Sync, R: Record + Send + Sync> Queue<S, R> {
     /// sift there, and one of the extract buffer, which is refilled from all runs while it is empty and more
     /// is wanted, about a comparison. Where no run has a record, no block is called.
     ///
-    /// `NoFreeBlock` and `Device` come as from `push`, the former only while a level has more than 8 runs; the
-    /// list is empty then.
+    /// `NoFreeBlock` and `Device` come as from `push`, the former only while a level has more than 8 runs, and fewer
+    /// blocks are free than 8 and one for each worker; the list is empty then.
     pub fn bulk_pop<H: Host, G: Gate>(
         &mut self,
         rt: &H,
@@ -323,8 +328,8 @@ impl<S: Slot + Send + Sync, R: Record + Send + Sync> Queue<S, R> {
     /// ended: `All`, if none below `l` is left; `More`, if one is left and `n` were returned; `Round`, if one
     /// is left and the list is full with fewer. The costs are those of `bulk_pop`.
     ///
-    /// `NoFreeBlock` and `Device` come as from `push`, the former only while a level has more than 8 runs; the
-    /// list is empty then.
+    /// `NoFreeBlock` and `Device` come as from `push`, the former only while a level has more than 8 runs, and fewer
+    /// blocks are free than 8 and one for each worker; the list is empty then.
     pub fn bulk_pop_limit<H: Host, G: Gate>(
         &mut self,
         rt: &H,
@@ -393,13 +398,15 @@ impl<S: Slot + Send + Sync, R: Record + Send + Sync> Queue<S, R> {
     /// Merges levels of runs in blocks until none of the 8 levels has more than 8. A session ends with it:
     /// the runs that its passes stored came without one.
     ///
-    /// `NoFreeBlock` and `Device` come as from `push`; the former only while a level has more than 8 still.
+    /// `NoFreeBlock` and `Device` come as from `push`; the former only while a level has more than 8 still, and fewer
+    /// blocks are free than 8 and one for each worker.
     pub fn settle<H: Host, G: Gate>(&mut self, rt: &H, gate: &G) -> Result<(), QueueFault>
     where
         H::Dir: Send,
         ensures same { OnOk result (SameRecords self.old self.new) }
         ensures settled { OnOk result (self.new.runs ≤ 64) }
         ensures crowded { IsErrOf result NoFreeBlock → 8 < self.new.crowd }
+        ensures scant { IsErrOf result NoFreeBlock → self.new.free < 8 + self.new.sizes.workers }
         ensures refused { IfErr result (IsRefusal self.old self.new) }
         ensures latched { (number : ℕ) → self.old.failed ≡ Some number → (result ≡ Err (Device number)) × (self.new ≡ self.old) }
         ensures counted { CountsAs self.old.counts self.old self.new }
@@ -594,8 +601,12 @@ impl<S: Slot + Send + Sync, R: Record + Send + Sync> Queue<S, R> {
         ensures transfers { IsCounting self.now.counts → runs_of self.now.sizes.workers self.now.counts < too_heavy → self.now.sizes.block * all_writes self.now.slots ≤ bound_of self.now.sizes.workers self.now.sizes.block self.now.counts }
         ensures read { all_writes self.now.slots < 2 ^ 63 → all_reads self.now.slots ≤ all_writes self.now.slots }
 
+        // Each block is free or in use. Unless one failed, a block in use is full of records of a run, but for one of
+        // each run and but for 65 in all. So few are free only if many records are there (`blocks_are_used`).
         ensures slots { length self.now.slots ≡ self.now.sizes.blocks }
         ensures free { self.now.free ≤ self.now.sizes.blocks }
+        ensures used { self.now.failed ≡ None → UsesBlocks self.now }
+
         ensures failed { (number : ℕ) → self.now.failed ≡ Some number → HasFailed number self.now.slots }
         ensures range { AreInRange self.now.sizes }
         ensures budget { fixed_of self.now.sizes ≤ self.now.sizes.memory }

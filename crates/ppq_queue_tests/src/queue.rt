@@ -4,7 +4,7 @@ ghost use Rattle.std.specs.Prelude.{◌≡◌, Some};
 
 use ppq_budget::Sizes;
 use ppq_outside::{Host, MemRack, MemSlot, OpenGate, Slot};
-use ppq_queue::{Queue, QueueFault};
+use ppq_queue::{Queue, QueueFault, blocks_are_used};
 use ppq_record::{Pair, sort};
 use ppq_testkit::{draw, opened, pair, pushed};
 use std::alloc::Global;
@@ -230,7 +230,8 @@ fn rising_pairs() -> [Pair; 60] {
     rising
 }
 
-// Fills a queue and empties it, and says whether it gives these records in their order.
+// Fills an empty queue and empties it, and says whether it gives these records in their order, and all its blocks
+// are free again.
 fn fills_and_drains<H: Host + Abort>(
     rt: &H,
     queue: &mut Queue<MemSlot, Pair>,
@@ -240,8 +241,9 @@ fn fills_and_drains<H: Host + Abort>(
 where
     H::Dir: Send,
 {
+    let empty = queue.resident();
     fill(rt, queue, pushes);
-    drains(rt, queue, rising)
+    drains(rt, queue, rising) & (queue.resident() == empty)
 }
 
 // Whether a queue that is filled ten times gives all of its records each time.
@@ -283,6 +285,7 @@ where
     // 60 records have room in 2 * 30 + 72 + 4 = 136 blocks; the budget is 158 and a record a block.
     let sizes = Sizes::new(1, 2, 1, 294, 136);
     let mut queue = holding(rt, alloc, MemRack::new(), sizes, &[]);
+    blocks_are_used::<Pair>();
     gives_ten_times(rt, &mut queue) & closes_after_many(queue)
 }
 

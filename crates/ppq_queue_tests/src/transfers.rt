@@ -3,7 +3,7 @@
 use crate::queue::holding;
 use ppq_budget::Sizes;
 use ppq_outside::{Host, MemRack, MemSlot, OpenGate, Slot};
-use ppq_queue::Queue;
+use ppq_queue::{Queue, writes_are_few};
 use ppq_record::Pair;
 use ppq_testkit::{draw, most_written, pair};
 use std::alloc::Global;
@@ -41,6 +41,7 @@ fn transfers_of(blocks: &[MemSlot]) -> (u64, u64) {
 
 // Closes a queue, and says whether its transfers are within the bound.
 fn closes_within(queue: Queue<MemSlot, Pair>, shape: &Shape, calls: &Calls) -> bool {
+    writes_are_few();
     let blocks = queue.close();
     let (writes, reads) = transfers_of(&blocks);
     let written = u64::from(shape.block).saturating_mul(writes);

@@ -6,10 +6,11 @@ use Rattle.ppq_extract.specs.ppq_fetch.Fetching.{blocks_in}
 use Rattle.ppq_heap.specs.Heaps.{items_of}
 use Rattle.ppq_queue.specs.Resting.{slots_of, runs_bag}
 use Rattle.ppq_queue.proofs.Bounds.{records_within, written, bag_length}
+use Rattle.ppq_queue.proofs.Used.{uses_blocks}
 use Rattle.ppq_spill.specs.ppq_counts.Account.{too_heavy}
 use Rattle.ppq_spill.specs.ppq_counts.Tally.{IsCounting, runs_of, bound_of}
 use Rattle.ppq_spill.proofs.ppq_counts.Counted.{counted-bound}
-use Rattle.ppq_queue.specs.Holding.{Holding}
+use Rattle.ppq_queue.specs.Holding.{Holding, UsesBlocks}
 use Rattle.ppq_queue.specs.Paying.{heaps_account}
 use Rattle.ppq_queue.proofs.queue.Queue.known.Goals as goal
 
@@ -55,3 +56,11 @@ pub returns-clause-read : goal.returns-clause-read
 returns-clause-read g c =
     let P : Holding g.row.R.Denot → Type 0 = λ q. all_writes q.slots < 2 ^ 63 → all_reads q.slots ≤ all_writes q.slots in
     subst P c.self.view_is c.self.invariant.0.counted.read
+
+pub returns-clause-used : goal.returns-clause-used
+returns-clause-used g c none =
+    let s = c.self.inside in
+    let stands = c.self.invariant.0 in
+    let sound = stands.sound (ap (λ q. q.failed) c.self.view_is ∙ none) in
+    let P : Holding g.row.R.Denot → Type 0 = λ q. UsesBlocks q in
+    subst P c.self.view_is (uses_blocks g.S.Slot.shown g.R.Ord.cmp g.R.Record.record_of g.R.Record.WIDTH s.store s.heaps s.count s.peak s.failed s.limited s.counts sound)

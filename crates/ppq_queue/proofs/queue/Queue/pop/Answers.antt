@@ -9,7 +9,7 @@ use Rattle.ppq_queue.proofs.Stores.{none_given}
 use Rattle.ppq_queue.proofs.queue.Queue.pop.Goals as goal
 
 pub returns-in_err-ready : goal.returns-in_err-ready
-returns-in_err-ready g c = record { answer = grind arith; none = grind arith; taken = grind arith; easy = λ none ready. absurd (let odd = (c.in_err-ready.ensures.easy none ready).0 in cc); crowded = none_given c.from_residual.result c.in_err-ready.field-0.0 c.from_residual.ensures.1 c.in_err-ready.ensures.crowded; refused = grind arith; latched = grind arith; peak = assumption; counted = assumption; keeps = assumption }
+returns-in_err-ready g c = record { answer = grind arith; none = grind arith; taken = grind arith; easy = λ none ready. absurd (let odd = (c.in_err-ready.ensures.easy none ready).0 in cc); crowded = none_given c.from_residual.result c.in_err-ready.field-0.0 c.from_residual.ensures.1 c.in_err-ready.ensures.crowded; scant = none_given c.from_residual.result c.in_err-ready.field-0.0 c.from_residual.ensures.1 c.in_err-ready.ensures.scant; refused = grind arith; latched = grind arith; peak = assumption; counted = assumption; keeps = assumption }
 
 pub take_least-requires-after_bounds : goal.take_least-requires-after_bounds
 take_least-requires-after_bounds g c = grind arith
@@ -34,6 +34,7 @@ returns g c =
       };
       easy = λ none ready. (refl, took.fields ∙ ap one_less (c.in_ok-ready.ensures.easy none ready).1);
       crowded = λ err. cc;
+      scant = λ err. cc;
       refused = tt;
       latched = grind arith;
       peak = ap (λ q. q.peak) took.fields ∙ stays.peak;

@@ -12,7 +12,7 @@ use Rattle.ppq_queue.proofs.Calls.{may_work, stopped, called-beside, untouched, 
 use Rattle.ppq_queue.proofs.queue.Queue.ready.Goals as goal
 
 pub returns-in-Some : goal.returns-in-Some
-returns-in-Some g c = record { leaves = stopped c.self.invariant.0 c.self.view_is c.in-Some.is; counted = record { counts = refl; heaps = omega arith }; readied = tt; easy = λ none. not_sound c.in-Some.number (sym c.in-Some.is ∙ ap (λ q. q.failed) c.self.view_is ∙ none); crowded = λ err. cc }
+returns-in-Some g c = record { leaves = stopped c.self.invariant.0 c.self.view_is c.in-Some.is; counted = record { counts = refl; heaps = omega arith }; readied = tt; easy = λ none. not_sound c.in-Some.number (sym c.in-Some.is ∙ ap (λ q. q.failed) c.self.view_is ∙ none); crowded = λ err. cc; scant = λ err. cc }
 
 pub make_ready-answer-requires-clause-works : goal.make_ready-answer-requires-clause-works
 make_ready-answer-requires-clause-works g c κs within = may_work c.self.invariant.0 c.in_default.is
@@ -41,6 +41,7 @@ returns g c =
       easy = λ sound ready.
           let at_hand = subst (λ (q : Holding g.row.R.Denot). (0 < q.in_extract) ⊎ (q.size ≡ q.in_heap)) (sym view) ready in
           untouched stands none m.result view c.latch.ensures (e.easy (ready_store (length (items_of c.self.inside.heaps)) (length c.self.inside.store.extract.items) (count_of c.self.inside.store.body) c.self.inside.count counted at_hand));
-      crowded = e.crowded;
+      crowded = λ err. (e.crowded err).level;
+      scant = λ err. (e.crowded err).free;
       readied = ok-map2 m.result (λ d same. record { sound = same.sound; some = λ gone. omega (arith, gone, d.some (empty_list m.new.self.extract.items gone), counted, d.holds.count) }) e.readied left.same;
     }

@@ -8,7 +8,7 @@ use Rattle.ppq_queue.proofs.queue.Queue.settle.Goals as goal
 pub returns-in-Some : goal.returns-in-Some
 returns-in-Some g c =
     let left = stopped c.self.invariant.0 c.self.view_is c.in-Some.is in
-    record { same = tt; settled = tt; crowded = λ err. cc; refused = left.refused; latched = left.latched; counted = record { counts = refl; heaps = omega arith }; stays = left.stays }
+    record { same = tt; settled = tt; crowded = λ err. cc; scant = λ err. cc; refused = left.refused; latched = left.latched; counted = record { counts = refl; heaps = omega arith }; stays = left.stays }
 
 pub settle_some-answer-requires-clause-works : goal.settle_some-answer-requires-clause-works
 settle_some-answer-requires-clause-works g c κs within = may_work c.self.invariant.0 c.in_default.is
@@ -32,7 +32,8 @@ returns g c =
     record {
       same = left.same;
       settled = e.few;
-      crowded = e.levels.crowded;
+      crowded = λ err. (e.levels.crowded err).level;
+      scant = λ err. (e.levels.crowded err).free;
       refused = left.refused;
       latched = left.latched;
       counted = record { counts = ap (λ q. q.counts) view; heaps = omega (arith, ap (λ q. q.in_heap) view) };

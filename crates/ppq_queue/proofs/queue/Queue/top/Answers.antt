@@ -6,7 +6,7 @@ use Rattle.ppq_queue.proofs.Stores.{none_given}
 use Rattle.ppq_queue.proofs.queue.Queue.top.Goals as goal
 
 pub returns-in_err-ready : goal.returns-in_err-ready
-returns-in_err-ready g c = record { answer = grind arith; none = grind arith; same = grind arith; easy = λ none ready. absurd (let odd = (c.in_err-ready.ensures.easy none ready).0 in cc); crowded = none_given c.from_residual.result c.in_err-ready.field-0.0 c.from_residual.ensures.1 c.in_err-ready.ensures.crowded; refused = grind arith; latched = grind arith; counted = assumption; stays = assumption }
+returns-in_err-ready g c = record { answer = grind arith; none = grind arith; same = grind arith; easy = λ none ready. absurd (let odd = (c.in_err-ready.ensures.easy none ready).0 in cc); crowded = none_given c.from_residual.result c.in_err-ready.field-0.0 c.from_residual.ensures.1 c.in_err-ready.ensures.crowded; scant = none_given c.from_residual.result c.in_err-ready.field-0.0 c.from_residual.ensures.1 c.in_err-ready.ensures.scant; refused = grind arith; latched = grind arith; counted = assumption; stays = assumption }
 
 pub least-requires-after_bounds : goal.least-requires-after_bounds
 least-requires-after_bounds g c = grind arith
@@ -21,6 +21,7 @@ returns g c =
       same = left.same;
       easy = λ none ready. (refl, (c.in_ok-ready.ensures.easy none ready).1);
       crowded = λ err. cc;
+      scant = λ err. cc;
       refused = tt;
       latched = grind arith;
       counted = c.ready.ensures.counted;

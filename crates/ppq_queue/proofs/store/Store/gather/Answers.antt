@@ -54,7 +54,7 @@ returns g c =
     let l = c.refilling in
     let i = l.invariant in
     let took = took-all g.S.Slot.shown c.record_laws.ensures.order g.R.Record.record_of g.R.Record.WIDTH c.args.wanted.now.limit c.args.wanted.now.most (items_of c.args.heaps.now) (items_of l.heaps) c.args.self.now l.self l.out.items i.stands i.took (c.wants_refill.ensures.ready c.refilling-test.false) in
-    record { kept = i.kept; heaps = i.heaps; list_room = i.list_room; took = took; same_heaps = λ err. cc; easy = λ none. (refl, i.easy none); crowded = λ err. cc; refused = tt; pays = ok_pays i.pays }
+    record { kept = i.kept; heaps = i.heaps; list_room = i.list_room; took = took; same_heaps = λ err. cc; easy = λ none. (refl, i.easy none); crowded = λ err. absurd (cc); refused = tt; pays = ok_pays i.pays }
 
 pub has_run-first-requires-after_bounds : goal.has_run-first-requires-after_bounds
 has_run-first-requires-after_bounds g c = assumption

@@ -48,7 +48,7 @@ pub has_run-requires-after_bounds : goal.has_run-requires-after_bounds
 has_run-requires-after_bounds g c = assumption
 
 pub returns-then-not-has_run : goal.returns-then-not-has_run
-returns-then-not-has_run g c = record { kept = kept-same; readied = record { holds = holds-same c.requires.works; some = grind arith }; easy = λ ready. (refl, refl); crowded = λ err. cc; refused = tt; pays = ok_pays (costs-same _) }
+returns-then-not-has_run g c = record { kept = kept-same; readied = record { holds = holds-same c.requires.works; some = grind arith }; easy = λ ready. (refl, refl); crowded = λ err. absurd (cc); refused = tt; pays = ok_pays (costs-same _) }
 
 pub settle-requires-clause-works : goal.settle-requires-clause-works
 settle-requires-clause-works g c = assumption

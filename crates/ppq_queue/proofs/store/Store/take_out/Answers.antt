@@ -29,7 +29,7 @@ returns-then-wants_nothing g c =
       };
       same_heaps = λ err. refl;
       easy = λ none. (refl, refl);
-      crowded = λ err. cc;
+      crowded = λ err. absurd (cc);
       refused = tt;
       pays = ok_pays (costs-same _);
     }
