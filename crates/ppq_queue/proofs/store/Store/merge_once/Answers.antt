@@ -68,9 +68,9 @@ returns g c =
           leaves = record { stays = stays-step x b t src kept no_row rests; holds = holds; refused = refused };
           internal = refl;
           crowded = λ err. (
-          let none = subst (λ w. NoneForLevel shown level w a.runs.external.items m.new.arrays.items a.lanes m.new.lanes s t) works.workers (e.none_free err) in
-          let short = short-leveled shown cmp record_of width n a b s t rest kept e.size e.lanes refl none.buffers level works.runs.no_row no_row none in
-          record { level = still_crowded shown level n.workers a.runs.external.items m.new.arrays.items a.lanes m.new.lanes s t c.requires.level c.requires.more none; free = short.short });
+              let none = subst (λ w. NoneForLevel shown level w a.runs.external.items m.new.arrays.items a.lanes m.new.lanes s t) works.workers (e.none_free err) in
+              let short = short-leveled shown cmp record_of width n a b s t rest kept e.size e.lanes refl none.buffers level works.runs.no_row no_row none in
+              record { level = still_crowded shown level n.workers a.runs.external.items m.new.arrays.items a.lanes m.new.lanes s t c.requires.level c.requires.more none; free = short.short });
           pays = pays-leveled shown n a b s t rest.block works.runs.no_row no_row m.result rest.no_job e.lanes.no_job refl e.counted;
         };
         lower = ok-map m.result (lower-leveled cmp record_of width shown level a.runs.external.items m.new.arrays.items s t c.requires.level) e.merged;
