@@ -13,7 +13,7 @@ use Rattle.ppq_script.specs.Files.{file_in, name_at}
 use Rattle.ppq_script.specs.Checking.{with_size, with_sizes}
 use Rattle.ppq_script.specs.Reading.{Reading, command_list}
 use Rattle.ppq_engine.specs.Output.{AreFilesOf, KeepsLengths, given_of, outside, after}
-use Rattle.ppq_engine.proofs.Lines.{HasLength}
+use Rattle.ppq_engine.specs.Bounds.{HasLength}
 
 pub has_length :
     {R : Type 0} (w : Words R) (told : Option (List ℕ → Option (List ℕ))) (script : Reading R) (files : List ℕ → Option (List ℕ)) (i : ℕ) (command : Command R)

@@ -2,9 +2,11 @@ pub use Rattle.ppq_load.proofs as ppq_load
 pub mod Advancing
 pub mod Asked
 pub mod Below
+pub mod Bounds
 pub mod Counted
 pub mod Deferred
 pub mod Ending
+pub mod Frames
 pub mod Kept
 pub mod Lengths
 pub mod Libraries
@@ -15,6 +17,7 @@ pub mod Loads
 pub mod Orders
 pub mod Parts
 pub mod Popped
+pub mod Pops
 pub mod Pushes
 pub mod Results
 pub mod Running

@@ -1,5 +1,5 @@
 -- What the commands that run together do: how the multiset grows with them, what counts, and what they print.
-use Rattle.std.proofs.Common.{◌≡◌, ℕ, zero, suc, ◌+◌, ◌-◌, ◌/◌, ◌≤◌, Bool, true, false, List, [], ◌∷◌, ◌++◌, length, take, drop, max, Option, None, refl, sym, ap, ap₂, ◌∙◌, subst, arith, length-append, length-drop, take-append-drop}
+use Rattle.std.proofs.Common.{◌≡◌, ℕ, zero, suc, ◌+◌, ◌-◌, ◌≤◌, Bool, true, false, List, [], ◌∷◌, ◌++◌, length, take, drop, max, Option, None, refl, sym, ap, ap₂, ◌∙◌, subst, arith, length-append, length-drop, take-append-drop}
 use Rattle.std.specs.Prelude.{if◌then◌else◌, unwrap_or, ◌||◌, count_by}
 use Rattle.std.proofs.Math.Bool.{or_assoc}
 use Rattle.std.proofs.Math.Seq.{take-nil}
@@ -22,6 +22,7 @@ use Rattle.ppq_script.specs.declared.session.Session.{Session}
 use Rattle.ppq_script.specs.declared.session.Session.TheVariants.{Outside, InBulk, InLimit}
 use Rattle.ppq_script.specs.Parts.{IsLine, AreLines, bulk_part, limit_part, commands_of, commands_in, first_in, HasItsLines}
 use Rattle.ppq_script.specs.Sessions.{turn_of, is_outside, may_stand}
+use Rattle.ppq_engine.specs.Bounds.{HasLength}
 use Rattle.ppq_engine.specs.Loads.{none_go, size_after, size_from, settled_from, is_limit_begin, begins_limit}
 use Rattle.ppq_engine.specs.Output.{State, outside, limited_count, after, state_from, output_from, counted_in, load_from, crest_from}
 use Rattle.ppq_engine.specs.Pushes.{pushed_in}
@@ -130,15 +131,11 @@ module _ {R : Type 0} (w : Words R) (leaves : ℕ → ℕ → ℕ) where
   pub bulk-part_size : (workers n : ℕ) (cs : List (Command R)) → AreLines w workers InBulk cs → size_from w leaves n (bulk_part cs) ≡ n + length (pushed_in cs)
   bulk-part_size workers n cs are = size_from-append w leaves n cs (BulkEnd ∷ []) ∙ bulk-size workers n cs are
 
--- the file of a command has as many records as its length says
-abbrev pub HasLength : {R : Type 0} → Words R → (ℕ → List R) → Command R → Type 0
-HasLength w given command = (file bytes : ℕ) → command ≡ Bulk file bytes → length (given file) ≡ bytes / w.WIDTH
-
-length-generated : {R : Type 0} (count : ℕ) (of_fields : List ℕ → R) (seed x first n : ℕ) → length (generated_from_by count of_fields seed x first n) ≡ n
+pub length-generated : {R : Type 0} (count : ℕ) (of_fields : List ℕ → R) (seed x first n : ℕ) → length (generated_from_by count of_fields seed x first n) ≡ n
 length-generated count of_fields seed x first zero = refl
 length-generated count of_fields seed x first (suc n) = ap suc (length-generated count of_fields seed (next_seed x) (first + 1) n)
 
-length-ascending : {R : Type 0} (w : Words R) (laws : HasLaws w) (bag : List R) → length (ascending w.cmp bag) ≡ length bag
+pub length-ascending : {R : Type 0} (w : Words R) (laws : HasLaws w) (bag : List R) → length (ascending w.cmp bag) ≡ length bag
 length-ascending w laws bag = IsSameBag-length (ascending w.cmp bag) bag (in_order-same_bag (is_before w.cmp) (ranks laws.order) bag)
 
 -- a record that is popped in a limit session still counts
@@ -165,7 +162,7 @@ module _ {R : Type 0} (w : Words R) (laws : HasLaws w) (given : ℕ → List R) 
       closed-by (state_from w given (in_limit limit bag) (cs ++ LimitEnd ∷ [])) (state_from w given (in_limit limit bag) cs).bag (state_from-append w laws given (in_limit limit bag) cs (LimitEnd ∷ []))
 
   -- the session behind a command
-  turns : (state : State R) (c : Command R) → (after w given state c).session ≡ unwrap_or (turn_of c) state.session
+  pub turns : (state : State R) (c : Command R) → (after w given state c).session ≡ unwrap_or (turn_of c) state.session
   turns state (Push item) = refl
   turns state _ = refl
 

@@ -19,7 +19,8 @@ use Rattle.ppq_engine.specs.Output.{State, outside, state_from, state_of, bag_of
 use Rattle.ppq_engine.specs.Gathers.{Gathers}
 use Rattle.ppq_engine.specs.Running.{IsGathered, HasRun, StopsWithin}
 use Rattle.ppq_engine.proofs.Sizes.{fits-more}
-use Rattle.ppq_engine.proofs.Lines.{HasLength, part-closed, part-crest, part-grows}
+use Rattle.ppq_engine.specs.Bounds.{HasLength}
+use Rattle.ppq_engine.proofs.Lines.{part-closed, part-crest, part-grows}
 use Rattle.ppq_engine.proofs.Running.{outside-same, output_from-same, state_from-same, state_from-append, output_from-append, load_from-append, crest_from-append, bag_of-le, gathered-more}
 
 regroup : (out text part rest behind : List ℕ) → text ≡ part ++ rest → (out ++ text) ++ behind ≡ (out ++ part) ++ (rest ++ behind)

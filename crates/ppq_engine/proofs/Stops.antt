@@ -31,7 +31,8 @@ use Rattle.ppq_load.specs.ppq_array.declared.store_fault.StoreFault.{StoreFault 
 use Rattle.ppq_load.specs.ppq_array.declared.store_fault.StoreFault.TheVariants.{NoFreeBlock, Device}
 use Rattle.ppq_engine.specs.Gathers.{Gathers}
 use Rattle.ppq_engine.proofs.Parts.{take-part, take-part_of}
-use Rattle.ppq_engine.proofs.Lines.{HasLength, begins-append, begins-take, begins-take_all, part-begins}
+use Rattle.ppq_engine.specs.Bounds.{HasLength}
+use Rattle.ppq_engine.proofs.Lines.{begins-append, begins-take, begins-take_all, part-begins}
 use Rattle.ppq_engine.proofs.Running.{take-fewer, output_from-append, load-take, load-take_all, gathered-all, gathered-part, part-behind, at_least}
 use Rattle.ppq_engine.proofs.Sizes.{peak-part, greatest-take_all}
 use Rattle.ppq_engine.proofs.Steps.{peak-run, output-behind, run-cut}

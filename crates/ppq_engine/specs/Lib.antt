@@ -7,17 +7,20 @@ pub use Rattle.ppq_load.specs.ppq_files.Reading as Reading
 pub use Rattle.ppq_load.specs.ppq_files as ppq_files
 pub use Rattle.ppq_text.specs as ppq_text
 pub use Rattle.ppq_load.specs.Refusal as Refusal
+pub mod Bounds
 pub mod Calls
 pub mod Deferred
 pub mod Ends
 pub mod Examples
 pub mod Files
+pub mod Frames
 pub mod Gathers
 pub mod Limits
 pub mod Loads
 pub mod Outcome
 pub mod Output
 pub mod Popping
+pub mod Pops
 pub mod Pushes
 pub mod Running
 pub mod Work

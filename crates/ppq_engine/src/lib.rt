@@ -24,7 +24,7 @@ pub use answer::Answer;
 pub use desk::Desk;
 pub use drained::Drained;
 pub use end::{End, Ended};
-pub use laws::session_laws;
+pub use laws::{drain_laws, frame_laws, load_laws, session_laws};
 pub use machine::Machine;
 pub use ppq_load::{
     BeginFault, Context, FileFault, LoadFault, Maker, OpenFault, Out, Piece, Pieces, Queue,
