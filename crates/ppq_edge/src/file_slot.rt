@@ -1,6 +1,6 @@
 //! A block of a device file.
 ghost use Rattle.std.specs.Prelude.{None, ◌≡◌, ◌≤◌, ◌*◌, ◌-◌, ◌^◌, min};
-ghost use Rattle.ppq_outside.specs.Told.{Rose};
+ghost use Rattle.ppq_outside.specs.Told.{Rose, next_count};
 
 use ppq_checked::UntrustedSlot;
 use ppq_outside::{Failed, Host};
@@ -66,6 +66,7 @@ impl FileSlot {
         ensures reads { self.new.reads ≡ self.old.reads }
         ensures later { self.old.faults ≤ self.new.faults }
         ensures rose { Rose self.old.faults self.new.faults }
+        ensures once { self.new.faults ≡ next_count self.old.faults }
     {
         self.faults = self.faults.saturating_add(1);
         Failed
