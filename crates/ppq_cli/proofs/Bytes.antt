@@ -21,7 +21,7 @@ use Rattle.ppq_jobs.specs.ppq_engine.declared.end.End.{End}
 use Rattle.ppq_jobs.specs.ppq_engine.declared.end.End.TheVariants.{ReadFault, WriteFault, NoDevice}
 use Rattle.ppq_jobs.specs.ppq_engine.declared.end.Ended.{Ended}
 use Rattle.ppq_jobs.proofs.ppq_engine.Running.{takes_none}
-use Rattle.ppq_cli.specs.Device.{IsSurelyRun}
+use Rattle.ppq_cli.specs.Device.{IsSurelyRun, HasAllBlocks}
 use Rattle.ppq_cli.specs.Outside.{Faults, OutsideKept}
 use Rattle.ppq_cli.specs.Load.{check_end, CheckCounts}
 use Rattle.ppq_cli.specs.Replies.{Files, IsScript, IsRefused, RefusalOf}
@@ -29,7 +29,7 @@ use Rattle.ppq_cli.specs.RunWords.{OfBytes, WritesPart, device_named, blocks_giv
 use Rattle.ppq_cli.specs.RunOver.{RunWrites, RunEnds, RunsBytes}
 use Rattle.ppq_cli.specs.Transfers.{TransfersWithin}
 use Rattle.ppq_cli.specs.Types.{typed}
-use Rattle.ppq_cli.proofs.Ends.{unread_not_run, refused_answer, refused_refusal, loaded_run, loaded_answer, loaded_refusal, of_commands}
+use Rattle.ppq_cli.proofs.Ends.{unread_not_run, refused_answer, refused_refusal, loaded_run, loaded_answer, loaded_refusal, of_commands, surely_all}
 use Rattle.ppq_cli.proofs.Extent.{lengths_asked, commands_asked}
 use Rattle.ppq_cli.proofs.Outside.{blockless_outside, later_outside}
 use Rattle.ppq_cli.proofs.Given.{script_remembered}
@@ -83,7 +83,8 @@ module _ {R L K O S : Type 0} (words : Words R) (library : LibraryShows L) (rack
       let A : End → Type 0 = λ e. IfSome told (λ files. IsAnswer (refusal_of_bytes words files bytes r) e) in
       let Q : End → Type 0 = λ e. RefusalOf words told (library.replied new) r bytes e in
       let F : End → Type 0 = λ e. Faults Rose (library.faults old) (library.faults new) (rack.faults held) (rack.faults held) (sink.faults out) (sink.faults out) e in
-      let not_run : IsSurelyRun ended.end → ⊥ = λ run. unread_not_run fault (subst IsSurelyRun is run) in
+      let unmade : HasAllBlocks ended.end → ⊥ = λ all. unread_not_run fault (subst HasAllBlocks is all) in
+      let not_run : IsSurelyRun ended.end → ⊥ = λ run. unmade (surely_all ended.end run) in
       record {
         ran = inl (record { maybe = not_run; same = refl });
         part = λ t. nothing_part told words sink.told out r bytes;
@@ -93,7 +94,7 @@ module _ {R L K O S : Type 0} (words : Words R) (library : LibraryShows L) (rack
         refused = subst Q (sym is) (refused_refusal words told (library.replied new) r bytes fault refused);
         asks = inl ((fault, is), lengths_asked (library.replied old) (library.replied new) r keeps.asks);
         outside =
-            blockless_outside library rack sink shown device_named blocks_given Rose (Some r) old new held out ended none not_run keeps.told keeps.remembers
+            blockless_outside library rack sink shown device_named blocks_given Rose (Some r) old new held out ended none unmade keeps.told keeps.remembers
             (subst F (sym is) (record {
               read = counted (library.faults old) (library.faults new) result fault was counts;
               write = λ e. absurd (not_sink fault e);

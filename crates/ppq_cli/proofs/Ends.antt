@@ -35,7 +35,7 @@ use Rattle.ppq_cli.specs.Load.{load_end, check_end, script_kinds}
 use Rattle.ppq_cli.specs.RunWords.{refusal_of_budget, refusal_of_bad, refusal_of_bytes, refusal_of_file, script_commands, script_given, IsTried, IsGivenUp, IsAnswer, IsTriedOrRefusal, About, Measure, OfBytes, OfFile, IsTooLarge, EndsWell}
 use Rattle.ppq_cli.specs.Outside.{MayWrite}
 use Rattle.ppq_cli.specs.RunOver.{RunWrites}
-use Rattle.ppq_cli.specs.Device.{IsSurelyRun, AreBlocks}
+use Rattle.ppq_cli.specs.Device.{IsSurelyRun, HasAllBlocks, AreBlocks}
 use Rattle.ppq_cli.specs.Replies.{Files, IsScript, IsRefused, OfGood, RefusalOf, RunOf, WroteNothing, HasRunToFile, HasRunToLoad, FaultToFile}
 use Rattle.ppq_cli.specs.Types.{typed, type_of}
 
@@ -178,8 +178,13 @@ nothing_by X false need end (inr memory) nothing = inl (inr memory)
 pub may_write : (X : Type 0) (sizes : Numbers) (end : End) → BeganOrRefused (budget_refusal sizes) end → ((n : ℕ) → end ≡ BudgetTooSmall n → X) → MayWrite end ⊎ X
 may_write X sizes end answer nothing = nothing_by X (nat_lt sizes.memory (fixed_of sizes)) (fixed_of sizes) end answer nothing
 
+-- all blocks were made where a script was surely run
+pub surely_all : (end : End) → IsSurelyRun end → HasAllBlocks end
+surely_all (BadEdge at) run = absurd run
+surely_all end run = run
+
 -- a script that was not read was not run
-pub unread_not_run : (fault : CheckFault) → IsSurelyRun (check_end fault) → ⊥
+pub unread_not_run : (fault : CheckFault) → HasAllBlocks (check_end fault) → ⊥
 unread_not_run (check.BadLine line) run = run
 unread_not_run check.ReadFault run = run
 unread_not_run check.Memory run = run
@@ -200,7 +205,7 @@ unloaded_stays before now whole.TooLong end is counts read = counts
 unloaded_stays before now (whole.Ended said got) end is counts read = counts
 
 -- a script that was not run has no blocks
-pub no_blocks : (most : ℕ) (end : End) (slots : List Shown) → (IsSurelyRun end → ⊥) → slots ≡ [] → AreBlocks most end slots
+pub no_blocks : (most : ℕ) (end : End) (slots : List Shown) → (HasAllBlocks end → ⊥) → slots ≡ [] → AreBlocks most end slots
 no_blocks most end slots not_run none =
     let P : List Shown → Type 0 = λ s. AreBlocks most end s in
     subst P (sym none) (record { numbers = IsPermutation-refl []; most = omega arith; all = λ run. absurd (not_run run); all_or_none = λ run. inr refl; none = λ refused. refl })

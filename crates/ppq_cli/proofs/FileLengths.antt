@@ -14,7 +14,7 @@ use Rattle.ppq_jobs.specs.ppq_engine.declared.end.End.{End}
 use Rattle.ppq_jobs.specs.ppq_engine.declared.end.End.TheVariants.{Usage, Memory, NoScript}
 use Rattle.ppq_cli.specs.declared.plan.Plan.{Plan}
 use Rattle.ppq_cli.specs.Budget.{refusal_by}
-use Rattle.ppq_cli.specs.Device.{IsSurelyRun}
+use Rattle.ppq_cli.specs.Device.{IsSurelyRun, HasAllBlocks}
 use Rattle.ppq_cli.specs.Load.{length_end, refusal_of_record_file}
 use Rattle.ppq_cli.specs.Outside.{MayWrite, Faults}
 use Rattle.ppq_cli.specs.Replies.{Files}
@@ -119,7 +119,7 @@ module _ (no_records : End) where
   unfound_faults library library_now rack sink lengths.NoRecords quiet later after = still_by library library_now rack sink no_records after quiet
 
   -- no end of it comes of a run
-  pub unfound_unrun : (fault : LengthFault) → (IsSurelyRun no_records → ⊥) → IsSurelyRun (length_end no_records fault) → ⊥
+  pub unfound_unrun : (fault : LengthFault) → (HasAllBlocks no_records → ⊥) → HasAllBlocks (length_end no_records fault) → ⊥
   unfound_unrun lengths.Failed unrun run = run
   unfound_unrun lengths.Memory unrun run = run
   unfound_unrun lengths.Absent unrun run = run

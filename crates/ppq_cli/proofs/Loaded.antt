@@ -1,5 +1,5 @@
 -- From what comes of a script's bytes to what comes of the words that name it.
-use Rattle.std.proofs.Common.{◌≡◌, ℕ, ◌<◌, ◌^◌, List, Option, Some, None, sym, ◌∙◌, subst, inl, inr}
+use Rattle.std.proofs.Common.{◌≡◌, ℕ, ◌<◌, ◌^◌, List, Option, Some, None, refl, sym, ◌∙◌, subst, inl, inr}
 use Rattle.std.specs.Prelude.{◌⊎◌, IfSome, map, String}
 use Rattle.std.specs.declared.alloc.Global.{Global}
 use Rattle.ppq_files.specs.Reading.{IsOn, LibraryKeeps}
@@ -10,19 +10,22 @@ use Rattle.ppq_words.specs.ppq_outside.Told.{Rose}
 use Rattle.ppq_words.specs.ppq_outside.declared.library.Library.{Ghosts as LibraryShows}
 use Rattle.ppq_words.specs.ppq_outside.declared.rack.Rack.{Ghosts as RackShows}
 use Rattle.ppq_words.specs.ppq_outside.declared.sink.Sink.{Ghosts as SinkShows}
+use Rattle.ppq_words.specs.ppq_script.declared.command.Command.{Command}
+use Rattle.ppq_words.specs.ppq_script.declared.command.Command.TheVariants.{Bulk}
 use Rattle.ppq_words.specs.ppq_script.Reading.{Reading as Script, command_list}
 use Rattle.ppq_words.specs.Reading.{Reading, sizes_at}
 use Rattle.ppq_jobs.specs.ppq_engine.Output.{AreFilesOf, given_of}
 use Rattle.ppq_jobs.specs.ppq_engine.Ends.{NoFault}
 use Rattle.ppq_jobs.specs.ppq_engine.declared.end.End.{End}
-use Rattle.ppq_jobs.specs.ppq_engine.declared.end.End.TheVariants.{Done, Usage, NoFreeBlock, FileChanged}
+use Rattle.ppq_jobs.specs.ppq_engine.declared.end.End.TheVariants.{Done, Usage, ReadFault, NoFreeBlock, Memory, FileChanged}
 use Rattle.ppq_jobs.specs.ppq_engine.declared.end.Ended.{Ended}
 use Rattle.ppq_cli.specs.Device.{IsSurelyRun}
-use Rattle.ppq_cli.specs.Replies.{Files, OfRun, RefusalOf, RunOf, RunIsRight, TransfersOf, WroteNothing, HasRunWhole, HasRunFull, AsksOf}
-use Rattle.ppq_cli.specs.RunWords.{reading, device_named, blocks_given, About, Measure, OfWords, OfBytes, OfFile, WritesAll, WritesPart, WritesRoom, UsesDevice, load_by, crest_by, most_by, least_by, refusal_of, refusal_of_bytes, refusal_of_file, IsAnswer, IsTooLarge, Completes, RunsWords}
+use Rattle.ppq_cli.specs.Replies.{Files, OfGood, OfRun, RefusalOf, RunOf, RunIsRight, TransfersOf, WroteNothing, HasRunWhole, HasRunFull, HasRunToFile, HasRunToLoad, AsksOf}
+use Rattle.ppq_cli.specs.RunWords.{reading, device_named, blocks_given, About, Measure, OfWords, OfBytes, OfFile, WritesAll, WritesPart, WritesRoom, WritesToFile, WritesToLoad, UsesDevice, load_by, crest_by, most_by, least_by, refusal_of, refusal_of_bytes, refusal_of_file, IsAnswer, IsTooLarge, Completes, RunsWords}
 use Rattle.ppq_cli.specs.RunOver.{RunsBytes}
-use Rattle.ppq_cli.specs.Types.{type_of}
+use Rattle.ppq_cli.specs.Types.{RecordType, type_of}
 use Rattle.ppq_cli.proofs.Ends.{of_commands, of_bytes, answer_of_bytes, named_completed}
+use Rattle.ppq_cli.proofs.Completing.{completes_of}
 use Rattle.ppq_cli.proofs.Extent.{files_asked}
 use Rattle.ppq_cli.proofs.Outside.{later_outside, named_outside}
 use Rattle.ppq_cli.proofs.Transfers as transfers
@@ -54,12 +57,27 @@ module _
       ]
 
   -- what holds of the script's commands holds of its file
+  of_good : (P : About) (Q : Script (type_of bytes).R → Type 0) → OfGood (type_of bytes).words (library.told old) (library.replied new) r bytes Q
+      → ((script : Script (type_of bytes).R) → Q script → (files : Files) → AreFilesOf (library.told old) script files → P (type_of bytes) r (given_of (type_of bytes).words files script) (command_list script))
+      → OfFile (library.told old) r P
+  of_good P Q good gives =
+      let script = good.0 in
+      of_bytes (library.told old) r bytes P loaded.loaded (of_commands (type_of bytes).words (library.told old) (library.replied new) r bytes script P good.1.0 (gives script good.1.1))
+
   of_file : (P : About) (Q : Script (type_of bytes).R → Type 0) → OfRun (type_of bytes).words (library.told old) (library.replied new) r bytes Q
       → ((script : Script (type_of bytes).R) → Q script → (files : Files) → AreFilesOf (library.told old) script files → P (type_of bytes) r (given_of (type_of bytes).words files script) (command_list script))
       → OfFile (library.told old) r P
-  of_file P Q run gives =
-      let script = run.1.0 in
-      of_bytes (library.told old) r bytes P loaded.loaded (of_commands (type_of bytes).words (library.told old) (library.replied new) r bytes script P run.1.1.0 (gives script run.1.1.1))
+  of_file P Q run gives = of_good P Q run.1 gives
+
+  -- what was written where the end is no sign of a run: nothing, or so it is said of the run
+  of_either : (P : About) (end : End) → ended.end ≡ end → ((type : RecordType) (given : ℕ → List type.R) (commands : List (Command type.R)) → sink.told new_out ≡ sink.told old_out → P type r given commands)
+      → (RunOf (type_of bytes).words (rack.tells old_rack) (library.told old) (library.replied new) r bytes (sink.told old_out) (sink.told new_out) (map shown ended.blocks.items) end → OfFile (library.told old) r P) → OfFile (library.told old) r P
+  of_either P end is nothing gives =
+      let Run : End → Type 0 = λ x. RunOf (type_of bytes).words (rack.tells old_rack) (library.told old) (library.replied new) r bytes (sink.told old_out) (sink.told new_out) (map shown ended.blocks.items) x in
+      elim ran as (λ _. OfFile (library.told old) r P) [
+        | inl wrote ↦ transfers.of_any (library.told old) _ (λ files. transfers.of_any (files r.script) _ (λ b. nothing (type_of b) _ _ wrote.same))
+        | inr was ↦ gives (subst Run is was)
+      ]
 
   full_file : (P : About) → ended.end ≡ NoFreeBlock
       → ((script : Script (type_of bytes).R) → HasRunFull (type_of bytes).words r.form (rack.tells old_rack) (library.told old) (sizes_at (type_of bytes).words.WIDTH r) (sink.told old_out) (sink.told new_out) script → (files : Files)
@@ -112,6 +130,12 @@ module _
           nothing = e.nothing;
         };
         room = λ is t. of_words _ (full_file (WritesRoom sink.told old_out new_out) is (λ script w. w.within t));
+        to_file = λ is t. of_words _ (of_either (WritesToFile sink.told old_out new_out) ReadFault is (λ type given commands same. inl same)
+            (λ run. of_file (WritesToFile sink.told old_out new_out) (HasRunToFile (type_of bytes).words r.form (rack.tells old_rack) (library.told old) (sink.told old_out) (sink.told new_out)) run
+            (λ script w files are. inr (record { done = w.done; command = Bulk w.file w.size; here = w.here; is = (w.file, (w.size, refl)); took = w.took t files are }))));
+        to_load = λ is t. of_words _ (of_either (WritesToLoad sink.told old_out new_out) Memory is (λ type given commands same. inl same)
+            (λ run. of_good (WritesToLoad sink.told old_out new_out) (HasRunToLoad (type_of bytes).words r.form (rack.tells old_rack) (library.told old) (sink.told old_out) (sink.told new_out)) run
+            (λ script w files are. inr (record { done = w.done; command = w.command; here = w.here; is = w.loads; took = w.took t files are }))));
         ran = of_words _ (elim ran as (λ _. RunIsRight (rack.tells old_rack) (library.told old) (library.replied new) r (sink.told old_out) (sink.told new_out) (map shown ended.blocks.items) ended.end) [
           | inl wrote ↦ inl wrote
           | inr was ↦ inr (bytes, (now_loaded, was))
@@ -137,4 +161,5 @@ module _
         above_any = λ is. of_words _ (full_file (IsTooLarge most_by) is (λ script w files are. w.above_any));
         complete = λ t fault. completed load_by (λ is. full_file (IsTooLarge load_by) is (λ script w. w.above t)) fault;
         complete_any = λ fault. completed most_by (λ is. full_file (IsTooLarge most_by) is (λ script w files are. w.above_any)) fault;
+        complete_given = λ fault. of_words _ (inr (bytes, (now_loaded, completes_of (type_of bytes).words (rack.tells old_rack) (library.told old) (library.replied new) r bytes (sink.told old_out) (sink.told new_out) (map shown ended.blocks.items) ended.end ran refusal fault)));
       }

@@ -1,5 +1,5 @@
 -- A device that was made, and one that was not: what that says of the end of a run and of the outside.
-use Rattle.std.proofs.Common.{◌≡◌, inl, inr, ℕ, ◌<◌, ◌≤◌, List, map, length, Option, Some, None, refl, sym, ◌∙◌, subst, arith}
+use Rattle.std.proofs.Common.{◌≡◌, inl, inr, ℕ, zero, suc, ◌<◌, ◌≤◌, List, map, length, Option, Some, None, refl, sym, ◌∙◌, subst, arith}
 use Rattle.std.specs.Prelude.{◌⊎◌, Bool, true, false, if◌then◌else◌, nat_lt, MatchOption, All}
 use Rattle.std.specs.List.{range_with_len}
 use Rattle.std.specs.List.Sorted.{IsPermutation}
@@ -16,11 +16,11 @@ use Rattle.ppq_words.specs.ppq_budget.Sizes.{Numbers, fixed_of}
 use Rattle.ppq_jobs.specs.ppq_engine.ppq_array.Kept.{HasFailed, SameSlots}
 use Rattle.ppq_jobs.specs.ppq_engine.Ends.{class_of, BeganCommands, BeganOrRefused, budget_refusal}
 use Rattle.ppq_jobs.specs.ppq_engine.declared.end.End.{End}
-use Rattle.ppq_jobs.specs.ppq_engine.declared.end.End.TheVariants.{Done, ReadFault, WriteFault, DeviceFault, NoFreeBlock, BudgetTooSmall, Memory, NoDevice}
+use Rattle.ppq_jobs.specs.ppq_engine.declared.end.End.TheVariants.{Done, ReadFault, WriteFault, DeviceFault, NoFreeBlock, BudgetTooSmall, Memory, NoDevice, BadEdge}
 use Rattle.ppq_jobs.specs.ppq_engine.declared.end.Ended.{Ended}
 use Rattle.ppq_cli.specs.declared.plan.Plan.{Plan}
 use Rattle.ppq_cli.specs.Budget.{refusal_by}
-use Rattle.ppq_cli.specs.Device.{AreBlocks, ComesBeforeBlocks, HasReason, IsSurelyRun, make_end}
+use Rattle.ppq_cli.specs.Device.{AreBlocks, ComesBeforeBlocks, HasAllBlocks, HasNoBlock, HasReason, IsSurelyRun, make_end}
 use Rattle.ppq_cli.specs.DeviceFor.{IsDevice, LacksDevice}
 use Rattle.ppq_cli.specs.Outside.{Faults, OutsideKept}
 use Rattle.ppq_cli.specs.RunWords.{IsTried, IsTriedOrRefusal}
@@ -75,8 +75,24 @@ unrefused_by true need end large answer refused = cc
 unrefused_by false need end large (inl began) refused = begun_unrefused (class_of end) began refused
 unrefused_by false need end large (inr memory) refused = subst ComesBeforeBlocks memory refused
 
-pub run_unrefused : (sizes : Numbers) (end : End) → fixed_of sizes ≤ sizes.memory → BeganOrRefused (budget_refusal sizes) end → ComesBeforeBlocks end → ⊥
-run_unrefused sizes end enough answer refused = unrefused_by (nat_lt sizes.memory (fixed_of sizes)) (fixed_of sizes) end (le-ltb sizes.memory (fixed_of sizes) enough) answer refused
+-- an end before a block is made is one of a refusal, or names no edge
+pub unmade_by : (end : End) → HasNoBlock end → ComesBeforeBlocks end ⊎ (end ≡ BadEdge 0)
+unmade_by (BadEdge zero) none = inr refl
+unmade_by (BadEdge (suc at)) none = absurd none
+unmade_by end none = inl none
+
+-- a run of a script or an agenda looks at no edge
+no_edge : (refusal : Bool) (need : ℕ) → MatchOption (if refusal then Some (BudgetTooSmall need) else None) (BeganCommands (BadEdge 0)) (λ e. BadEdge 0 ≡ e) ⊎ (BadEdge 0 ≡ Memory) → ⊥
+no_edge true need (inl is) = cc
+no_edge false need (inl run) = run
+no_edge true need (inr is) = cc
+no_edge false need (inr is) = cc
+
+pub run_unrefused : (sizes : Numbers) (end : End) → fixed_of sizes ≤ sizes.memory → BeganOrRefused (budget_refusal sizes) end → HasNoBlock end → ⊥
+run_unrefused sizes end enough answer none = elim (unmade_by end none) as (λ _. ⊥) [
+  | inl refused ↦ unrefused_by (nat_lt sizes.memory (fixed_of sizes)) (fixed_of sizes) end (le-ltb sizes.memory (fixed_of sizes) enough) answer refused
+  | inr is ↦ no_edge (nat_lt sizes.memory (fixed_of sizes)) (fixed_of sizes) (let P : End → Type 0 = λ e. BeganOrRefused (budget_refusal sizes) e in subst P is answer)
+]
 
 -- the device could not be made: the rack's count rose where it failed
 pub unmade_faults : (library rack rack_now sink : ℕ) (fault : OutsideFault) → rack ≤ rack_now → HasReason rack rack_now fault → Faults Rose library library rack rack_now sink sink (make_end fault)
@@ -108,12 +124,12 @@ pub unmade_unbegun : (fault : OutsideFault) → BeganCommands (make_end fault) �
 unmade_unbegun outside.Failed run = run
 unmade_unbegun outside.Memory run = run
 
-unmade_unrun : (fault : OutsideFault) → IsSurelyRun (make_end fault) → ⊥
+unmade_unrun : (fault : OutsideFault) → HasAllBlocks (make_end fault) → ⊥
 unmade_unrun outside.Failed run = run
 unmade_unrun outside.Memory run = run
 
 -- nor is it one of a refusal
-unmade_unrefused : (fault : OutsideFault) → ComesBeforeBlocks (make_end fault) → ⊥
+unmade_unrefused : (fault : OutsideFault) → HasNoBlock (make_end fault) → ⊥
 unmade_unrefused outside.Failed refused = refused
 unmade_unrefused outside.Memory refused = refused
 
@@ -150,7 +166,7 @@ module _
   -- a device was made, a run was tried over it, and all its blocks come back
   pub ran_outside :
       (old_library new_library : L) (old_out new_out : O) (width : ℕ) (slots : List S)
-      → IsDevice rack shown width plan (device a) old_rack new_rack slots → (ended.end ≡ NoDevice → ⊥) → (ComesBeforeBlocks ended.end → ⊥) → SameSlots (map shown slots) (map shown ended.blocks.items)
+      → IsDevice rack shown width plan (device a) old_rack new_rack slots → (ended.end ≡ NoDevice → ⊥) → (HasNoBlock ended.end → ⊥) → SameSlots (map shown slots) (map shown ended.blocks.items)
       → ((ended.end ≡ Done) ⊎ (ended.end ≡ NoFreeBlock) → All (λ (s : Shown). s.faults ≡ 0) (map shown ended.blocks.items)) → ((number : ℕ) → ended.end ≡ DeviceFault number → HasFailed number (map shown ended.blocks.items))
       → library.told new_library ≡ library.told old_library → Remembers (library.replied old_library) (library.replied new_library)
       → (ended.end ≡ ReadFault → Rose (library.faults old_library) (library.faults new_library)) → (ended.end ≡ WriteFault → Rose (sink.faults old_out) (sink.faults new_out))

@@ -10,10 +10,10 @@ use Rattle.ppq_jobs.specs.ppq_engine.Ends.{NoFault}
 use Rattle.ppq_jobs.specs.ppq_engine.declared.end.End.{End}
 use Rattle.ppq_jobs.specs.ppq_engine.declared.end.End.TheVariants.{Done, DeviceFault, NoFreeBlock}
 use Rattle.ppq_jobs.specs.ppq_engine.declared.end.Ended.{Ended}
-use Rattle.ppq_cli.specs.Device.{IsSurelyRun}
+use Rattle.ppq_cli.specs.Device.{IsSurelyRun, HasAllBlocks}
 use Rattle.ppq_cli.specs.Outside.{IsHigher, Faults, OutsideKept}
 use Rattle.ppq_cli.proofs.Blocks.{made_nothing}
-use Rattle.ppq_cli.proofs.Ends.{no_blocks}
+use Rattle.ppq_cli.proofs.Ends.{no_blocks, surely_all}
 use Rattle.ppq_cli.proofs.Transfers.{of_any}
 
 -- counts that stay, with an end that names no fault
@@ -59,15 +59,16 @@ module _
     {A L K O S : Type 0} (library : LibraryShows L) (rack : RackShows K S) (sink : SinkShows O) (shown : S → Shown) (device : A → List ℕ) (most : A → ℕ) where
   -- no block was made, and rack and sink were left alone
   pub blockless_outside :
-      (Rises : ℕ → ℕ → Type 0) (given : Option A) (old new : L) (held : K) (out : O) (ended : Ended S) → ended.blocks.items ≡ [] → (IsSurelyRun ended.end → ⊥)
+      (Rises : ℕ → ℕ → Type 0) (given : Option A) (old new : L) (held : K) (out : O) (ended : Ended S) → ended.blocks.items ≡ [] → (HasAllBlocks ended.end → ⊥)
       → library.told new ≡ library.told old → Remembers (library.replied old) (library.replied new)
       → Faults Rises (library.faults old) (library.faults new) (rack.faults held) (rack.faults held) (sink.faults out) (sink.faults out) ended.end
       → OutsideKept Rises library rack sink shown given device most old new held held out out ended
-  blockless_outside Rises given old new held out ended none not_run told kept faults =
+  blockless_outside Rises given old new held out ended none unmade told kept faults =
+      let not_run : IsSurelyRun ended.end → ⊥ = λ run. unmade (surely_all ended.end run) in
       let slots : map shown ended.blocks.items ≡ [] = (let P : List S → Type 0 = λ s. map shown s ≡ [] in subst P (sym none) refl) in
       record {
         made = of_any given _ (λ a. made_nothing (λ s. (shown s).number) ended.blocks.items (rack.made held (device a)) none);
-        blocks = of_any given _ (λ a. no_blocks (most a) ended.end (map shown ended.blocks.items) not_run slots);
+        blocks = of_any given _ (λ a. no_blocks (most a) ended.end (map shown ended.blocks.items) unmade slots);
         unfailed = unrun_unfailed ended.end not_run;
         failed = λ number is. absurd (unrun_failed ended.end not_run number is);
         rack_tells = λ tells. tells;

@@ -28,14 +28,14 @@ use Rattle.ppq_jobs.specs.ppq_handler.Agenda.{journal}
 use Rattle.ppq_jobs.specs.Asked.{count_of, run_of, load_of_run, OfRun}
 use Rattle.ppq_jobs.specs.Ending.{HasShrunk}
 use Rattle.ppq_cli.specs.Budget.{plan_for, refusal_by}
-use Rattle.ppq_cli.specs.Device.{IsSurelyRun}
+use Rattle.ppq_cli.specs.Device.{IsSurelyRun, HasAllBlocks}
 use Rattle.ppq_cli.specs.Load.{length_end}
 use Rattle.ppq_cli.specs.Outside.{IsHigher, Faults, Unreadable}
 use Rattle.ppq_cli.specs.Replies.{Files}
 use Rattle.ppq_cli.specs.RunWords.{IsAnswer, IsTriedOrRefusal}
 use Rattle.ppq_cli.specs.SimOver.{SimsOver}
 use Rattle.ppq_cli.specs.SimWords.{sim_reading, OfSim, sim_device, sim_blocks, sim_sizes, asked_by, AboutRun, OfEvents, OfAgenda, RunsOut, sim_refusal_of_file, sim_refusal_of, OfSize, OfTried, SimEndIsRight, HasNoRoomForAll, EndsWell, HasRoomForAny, SimsWords}
-use Rattle.ppq_cli.proofs.Ends.{ways, enough, completed}
+use Rattle.ppq_cli.proofs.Ends.{ways, enough, completed, surely_all}
 use Rattle.ppq_cli.proofs.FileLengths.{record_length, may_write, tried_read, answer_of, unfound_answer, found_refusal, unfound_faults, unfound_unrun, unfound_read}
 use Rattle.ppq_cli.proofs.Outside.{same_faults, higher_faults, blockless_outside, later_outside, named_outside}
 use Rattle.ppq_cli.proofs.Transfers.{of_any}
@@ -150,7 +150,7 @@ module _
     {L K O S : Type 0} (library : LibraryShows L) (rack : RackShows K S) (sink : SinkShows O) (shown : S → Shown) (words : List (String Global)) (places : List Place) where
   -- no run was begun: no block was made, and rack and sink were left alone
   pub unrun_sims :
-      (old new : L) (held : K) (out : O) (ended : Ended S) → ended.blocks.items ≡ [] → (IsSurelyRun ended.end → ⊥)
+      (old new : L) (held : K) (out : O) (ended : Ended S) → ended.blocks.items ≡ [] → (HasAllBlocks ended.end → ⊥)
       → library.told new ≡ library.told old → Remembers (library.replied old) (library.replied new)
       → Faults IsHigher (library.faults old) (library.faults new) (rack.faults held) (rack.faults held) (sink.faults out) (sink.faults out) ended.end
       → OfSim words (λ r. RepliesOnly (library.replied old) (library.replied new) (IsOn (library.replied new) r.agenda))
@@ -159,7 +159,7 @@ module _
       → OfSim words (λ r. SimEndIsRight (library.told old) (library.replied new) r ended.end)
       → SimsWords library rack sink shown words places old new held held out out ended
   unrun_sims old new held out ended none unrun told kept faults reads unreadable answer right =
-      let no : (end : End) → IsSurelyRun end → ended.end ≡ end → ⊥ = λ end run is. unrun (subst IsSurelyRun (sym is) run) in
+      let no : (end : End) → IsSurelyRun end → ended.end ≡ end → ⊥ = λ end run is. unrun (surely_all ended.end (subst IsSurelyRun (sym is) run)) in
       record {
         written = record {
           done = λ is. absurd (no Done tt is);
@@ -184,7 +184,7 @@ module _
       → SimsWords library rack sink shown words places held held rack_held rack_held out out ended
   memory_sims held rack_held out ended is none parsed =
       let other : (end : End) → (Memory ≡ end → ⊥) → ended.end ≡ end → ⊥ = λ end differs e. differs (sym is ∙ e) in
-      unrun_sims held held rack_held out ended none (λ run. subst IsSurelyRun is run) refl (λ reply had. had)
+      unrun_sims held held rack_held out ended none (λ all. subst HasAllBlocks is all) refl (λ reply had. had)
       (same_faults IsHigher (library.faults held) (rack.faults rack_held) (sink.faults out) ended.end (subst NoFault (sym is) tt))
       (of_any (sim_reading words) _ (λ r. no_replies (library.replied held) _))
       (record {
@@ -203,7 +203,7 @@ module _
       → SimsWords library rack sink shown words places held held rack_held rack_held out out ended
   usage_sims held rack_held out ended is none unread =
       let nothing : (P : SimReading → Type 0) → OfSim words P = λ P. (let Q : Option SimReading → Type 0 = λ o. IfSome o P in subst Q (sym unread) tt) in
-      unrun_sims held held rack_held out ended none (λ run. subst IsSurelyRun is run) refl (λ reply had. had)
+      unrun_sims held held rack_held out ended none (λ all. subst HasAllBlocks is all) refl (λ reply had. had)
       (same_faults IsHigher (library.faults held) (rack.faults rack_held) (sink.faults out) ended.end (subst NoFault (sym is) tt))
       (nothing _)
       (record { usage = λ usage. unread; no_reading = λ no. inl is; early = λ no stray. is; none = λ no. none; unasked = λ no. (refl, (refl, refl)) })
@@ -280,7 +280,7 @@ module _
         let faults : Faults Rose (library.faults old) (library.faults new) (rack.faults held) (rack.faults held) (sink.faults out) (sink.faults out) (length_end BadAgenda fault) =
         unfound_faults BadAgenda (library.faults old) (library.faults new) (rack.faults held) (sink.faults out) fault tt later after in
         let At : (P : End → Type 0) → P (length_end BadAgenda fault) → P ended.end = λ P holds. subst P (sym is) holds in
-        unrun_sims old new held out ended none (λ run. unfound_unrun BadAgenda fault (λ other. other) (subst IsSurelyRun is run)) kept.told kept.remembers
+        unrun_sims old new held out ended none (λ run. unfound_unrun BadAgenda fault (λ other. other) (subst HasAllBlocks is run)) kept.told kept.remembers
         (higher_faults (library.faults old) (library.faults new) (rack.faults held) (rack.faults held) (sink.faults out) (sink.faults out) ended.end few_library few_rack few_sink
         (At (λ e. Faults Rose (library.faults old) (library.faults new) (rack.faults held) (rack.faults held) (sink.faults out) (sink.faults out) e) faults))
         (of_words _ kept.asks)

@@ -1,13 +1,18 @@
 -- What `sweep_over` says where no device was made, and how its end follows from that of a sweep over a device.
-use Rattle.std.proofs.Common.{◌≡◌, ◌∙◌, inl, inr, ℕ, ◌≤◌, refl, sym, subst}
-use Rattle.std.specs.Prelude.{◌⊎◌}
+use Rattle.std.proofs.Common.{◌≡◌, ◌∙◌, inl, inr, ℕ, suc, ◌≤◌, Bool, true, false, List, [], ◌∷◌, Option, Some, refl, sym, subst, arith}
+use Rattle.std.specs.Prelude.{◌⊎◌, if◌then◌else◌}
 use Rattle.ppq_words.specs.ppq_outside.declared.library.Library.{Ghosts as LibraryShows}
 use Rattle.ppq_words.specs.ppq_outside.declared.rack.Rack.{Ghosts as RackShows}
 use Rattle.ppq_words.specs.ppq_outside.declared.sink.Sink.{Ghosts as SinkShows}
 use Rattle.ppq_words.specs.ppq_outside.Shown.{Shown}
+use Rattle.ppq_words.specs.ppq_outside.Told.{Reply}
+use Rattle.ppq_words.specs.ppq_script.ppq_record.declared.pair.Pair.{Pair}
+use Rattle.ppq_words.specs.ppq_script.ppq_record.Pair.{pair_of}
 use Rattle.ppq_words.specs.ppq_budget.Sizes.{Numbers, fixed_of}
 use Rattle.ppq_words.proofs.ppq_outside.Replies.{no_replies}
 use Rattle.ppq_words.specs.SweepReading.{SweepReading}
+use Rattle.ppq_jobs.specs.Edges.{Wanted, is_edge, first_bad_from, FindsBad}
+use Rattle.ppq_jobs.specs.ppq_engine.ppq_load.Given.{records_of}
 use Rattle.ppq_jobs.specs.ppq_engine.Ends.{BeganCommands, BeganOrRefused, budget_refusal}
 use Rattle.ppq_jobs.specs.ppq_engine.declared.end.End.{End}
 use Rattle.ppq_jobs.specs.ppq_engine.declared.end.End.TheVariants.{NoDevice, BadEdge}
@@ -15,13 +20,13 @@ use Rattle.ppq_jobs.specs.ppq_engine.declared.end.Ended.{Ended}
 use Rattle.ppq_jobs.proofs.ppq_engine.Running.{takes_none}
 use Rattle.ppq_cli.specs.declared.plan.Plan.{Plan}
 use Rattle.ppq_cli.specs.Budget.{half_plan_for, refusal_by}
-use Rattle.ppq_cli.specs.Device.{ComesBeforeBlocks}
+use Rattle.ppq_cli.specs.Device.{ComesBeforeBlocks, HasNoBlock}
 use Rattle.ppq_cli.specs.DeviceFor.{LacksDevice}
 use Rattle.ppq_cli.specs.RunWords.{IsTriedOrRefusal}
 use Rattle.ppq_cli.specs.SweepOver.{IsSweptOrRefusal, SweepsOver}
 use Rattle.ppq_cli.specs.SweepWords.{sweep_device, sweep_blocks}
 use Rattle.ppq_cli.proofs.Ends.{ways}
-use Rattle.ppq_cli.proofs.Making.{begun_answer, run_made, run_unrefused, unmade_outside}
+use Rattle.ppq_cli.proofs.Making.{begun_answer, run_made, run_unrefused, unmade_by, unmade_outside}
 
 -- a sweep over queues of these sizes was begun, or its budget is too small, or a record is no edge
 abbrev IsSwept : Numbers → End → Type 0
@@ -33,9 +38,24 @@ swept_made sizes end (inl answer) is = run_made sizes end answer is
 swept_made sizes end (inr (at, bad)) is = let other : BadEdge at ≡ NoDevice = sym bad ∙ is in cc
 
 -- and where the budget is large enough, its end is none of a refusal
-pub swept_unrefused : (sizes : Numbers) (end : End) → fixed_of sizes ≤ sizes.memory → IsSwept sizes end → ComesBeforeBlocks end → ⊥
-swept_unrefused sizes end enough (inl answer) refused = run_unrefused sizes end enough answer refused
-swept_unrefused sizes end enough (inr (at, bad)) refused = subst ComesBeforeBlocks bad refused
+pub swept_unrefused : (sizes : Numbers) (end : End) → fixed_of sizes ≤ sizes.memory → IsSwept sizes end → ((at : ℕ) → end ≡ BadEdge at → 1 ≤ at) → HasNoBlock end → ⊥
+swept_unrefused sizes end enough (inl answer) counted none = run_unrefused sizes end enough answer none
+swept_unrefused sizes end enough (inr (at, bad)) counted none = elim (unmade_by end none) as (λ _. ⊥) [
+  | inl refused ↦ subst ComesBeforeBlocks bad refused
+  | inr is ↦ absurd (omega (arith, counted 0 is))
+]
+
+-- records are counted from 1
+by_edge : (edge : Bool) (first at : ℕ) (rest : Option ℕ) → (rest ≡ Some at → first ≤ at) → (if edge then rest else Some first) ≡ Some at → first ≤ at
+by_edge true first at rest later is = later is
+by_edge false first at rest later is = let here : first ≡ at = cc in omega (arith, here)
+
+bad_from : (nodes first at : ℕ) (records : List Pair) → first_bad_from nodes first records ≡ Some at → first ≤ at
+bad_from nodes first at [] is = cc
+bad_from nodes first at (r ∷ records) is = by_edge (is_edge nodes r) first at (first_bad_from nodes (suc first) records) (λ same. omega (arith, bad_from nodes (suc first) at records same)) is
+
+pub bad_counted : (told : Option (List ℕ → Option (List ℕ))) (replied : Reply → Type 0) (wanted : Wanted) (at : ℕ) → FindsBad told replied wanted at → 1 ≤ at
+bad_counted told replied wanted at bad = bad_from wanted.nodes 1 at (records_of pair_of 16 bad.bytes) bad.bad
 
 -- it was tried or refused, or a record is no edge
 pub swept_answer : (plan : Plan) (end : End) → fixed_of plan.sizes ≤ plan.sizes.memory → IsSwept plan.sizes end → IsSweptOrRefusal plan end

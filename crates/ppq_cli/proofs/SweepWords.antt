@@ -33,14 +33,14 @@ use Rattle.ppq_jobs.specs.Edges.{Wanted, edge_count, is_edge, first_bad_from, fi
 use Rattle.ppq_jobs.specs.Ending.{HasShrunk}
 use Rattle.ppq_cli.specs.declared.plan.Plan.{Plan}
 use Rattle.ppq_cli.specs.Budget.{half_plan_for, refusal_by}
-use Rattle.ppq_cli.specs.Device.{IsSurelyRun}
+use Rattle.ppq_cli.specs.Device.{IsSurelyRun, HasAllBlocks}
 use Rattle.ppq_cli.specs.Load.{length_end}
 use Rattle.ppq_cli.specs.Outside.{IsHigher, Faults, Unreadable}
 use Rattle.ppq_cli.specs.Replies.{Files}
 use Rattle.ppq_cli.specs.RunWords.{IsAnswer}
 use Rattle.ppq_cli.specs.SweepOver.{IsSweptOrRefusal, SweepsOver}
 use Rattle.ppq_cli.specs.SweepWords.{sweep_reading, OfSweep, sweep_device, sweep_blocks, sweep_sizes, wanted_by, sweep_refusal_of_file, sweep_refusal_of, IsSweepAnswer, OfSize, OfTried, SweepEndIsRight, SweepEndsWell, HasRoomForEdges, SweepsWords}
-use Rattle.ppq_cli.proofs.Ends.{ways, enough, completed}
+use Rattle.ppq_cli.proofs.Ends.{ways, enough, completed, surely_all}
 use Rattle.ppq_cli.proofs.FileLengths.{record_length, may_write, tried_read, answer_of, unfound_answer, found_refusal, unfound_faults, unfound_unrun, unfound_read}
 use Rattle.ppq_cli.proofs.Outside.{same_faults, higher_faults, blockless_outside, later_outside, named_outside}
 use Rattle.ppq_cli.proofs.Transfers.{of_any}
@@ -230,7 +230,7 @@ module _
     {L K O S : Type 0} (library : LibraryShows L) (rack : RackShows K S) (sink : SinkShows O) (shown : S → Shown) (words : List (String Global)) where
   -- no sweep was begun: no block was made, and rack and sink were left alone
   pub unrun_sweeps :
-      (old new : L) (held : K) (out : O) (ended : Ended S) → ended.blocks.items ≡ [] → (IsSurelyRun ended.end → ⊥)
+      (old new : L) (held : K) (out : O) (ended : Ended S) → ended.blocks.items ≡ [] → (HasAllBlocks ended.end → ⊥)
       → library.told new ≡ library.told old → Remembers (library.replied old) (library.replied new)
       → Faults IsHigher (library.faults old) (library.faults new) (rack.faults held) (rack.faults held) (sink.faults out) (sink.faults out) ended.end
       → OfSweep words (λ r. RepliesOnly (library.replied old) (library.replied new) (IsOn (library.replied new) r.edges))
@@ -239,7 +239,7 @@ module _
       → OfSweep words (λ r. SweepEndIsRight (library.told old) (library.replied new) r ended.end)
       → SweepsWords library rack sink shown words old new held held out out ended
   unrun_sweeps old new held out ended none unrun told kept faults reads unreadable answer right =
-      let no : (end : End) → IsSurelyRun end → ended.end ≡ end → ⊥ = λ end run is. unrun (subst IsSurelyRun (sym is) run) in
+      let no : (end : End) → IsSurelyRun end → ended.end ≡ end → ⊥ = λ end run is. unrun (surely_all ended.end (subst IsSurelyRun (sym is) run)) in
       record {
         written = record {
           done = λ is. absurd (no Done tt is);
@@ -265,7 +265,7 @@ module _
       → SweepsWords library rack sink shown words held held rack_held rack_held out out ended
   memory_sweeps held rack_held out ended is none parsed =
       let other : (end : End) → (Memory ≡ end → ⊥) → ended.end ≡ end → ⊥ = λ end differs e. differs (sym is ∙ e) in
-      unrun_sweeps held held rack_held out ended none (λ run. subst IsSurelyRun is run) refl (λ reply had. had)
+      unrun_sweeps held held rack_held out ended none (λ all. subst HasAllBlocks is all) refl (λ reply had. had)
       (same_faults IsHigher (library.faults held) (rack.faults rack_held) (sink.faults out) ended.end (subst NoFault (sym is) tt))
       (of_any (sweep_reading words) _ (λ r. no_replies (library.replied held) _))
       (record {
@@ -284,7 +284,7 @@ module _
       → SweepsWords library rack sink shown words held held rack_held rack_held out out ended
   usage_sweeps held rack_held out ended is none unread =
       let nothing : (P : SweepReading → Type 0) → OfSweep words P = λ P. (let Q : Option SweepReading → Type 0 = λ o. IfSome o P in subst Q (sym unread) tt) in
-      unrun_sweeps held held rack_held out ended none (λ run. subst IsSurelyRun is run) refl (λ reply had. had)
+      unrun_sweeps held held rack_held out ended none (λ all. subst HasAllBlocks is all) refl (λ reply had. had)
       (same_faults IsHigher (library.faults held) (rack.faults rack_held) (sink.faults out) ended.end (subst NoFault (sym is) tt))
       (nothing _)
       (record { usage = λ usage. unread; no_reading = λ no. inl is; early = λ no stray. is; none = λ no. none; unasked = λ no. (refl, (refl, refl)) })
@@ -372,7 +372,7 @@ module _
         let At : (P : End → Type 0) → P (length_end (BadEdge 0) fault) → P ended.end = λ P holds. subst P (sym is) holds in
         let exact : IfSome told (λ files. IsSweepAnswer (sweep_refusal_of_file r (files r.edges)) (length_end (BadEdge 0) fault)) =
         only_answers told (λ files. sweep_refusal_of_file r (files r.edges)) (length_end (BadEdge 0) fault) (unfound_answer 16 plan (BadEdge 0) told (library.replied new) r.edges fault honest refused) in
-        unrun_sweeps old new held out ended none (λ run. unfound_unrun (BadEdge 0) fault (λ other. other) (subst IsSurelyRun is run)) kept.told kept.remembers
+        unrun_sweeps old new held out ended none (λ run. unfound_unrun (BadEdge 0) fault (λ other. other) (subst HasAllBlocks is run)) kept.told kept.remembers
         (higher_faults (library.faults old) (library.faults new) (rack.faults held) (rack.faults held) (sink.faults out) (sink.faults out) ended.end few_library few_rack few_sink
         (At (λ e. Faults Rose (library.faults old) (library.faults new) (rack.faults held) (rack.faults held) (sink.faults out) (sink.faults out) e) faults))
         (of_words _ kept.asks)

@@ -1,5 +1,5 @@
 -- The blocks of a device.
-use Rattle.std.specs.Prelude.{◌≡◌, ◌≤◌, ◌⊎◌, ℕ, List, length, map, All, Vec, Result, Ok, Err, OnOk, IfErr}
+use Rattle.std.specs.Prelude.{◌≡◌, ◌≤◌, ◌⊎◌, ⊤, ℕ, zero, suc, List, length, map, All, Vec, Result, Ok, Err, OnOk, IfErr}
 use Rattle.std.specs.List.{range_with_len}
 use Rattle.std.specs.List.Sorted.{IsPermutation}
 use Rattle.std.specs.declared.alloc.Global.{Global}
@@ -52,11 +52,23 @@ IsSurelyRun end = HasSurelyRun (class_of end)
 abbrev pub ComesBeforeBlocks : End → Type 0
 ComesBeforeBlocks end = IsRefusal (class_of end)
 
+-- the end comes only where all blocks were made: of a run, or since a record of a file of edges is no edge
+abbrev pub HasAllBlocks : End → Type 0
+HasAllBlocks (end.BadEdge zero) = ⊥
+HasAllBlocks (end.BadEdge (suc at)) = ⊤
+HasAllBlocks answer = IsSurelyRun answer
+
+-- the end comes before a block is made: of a refusal, or since a file is none of edges
+abbrev pub HasNoBlock : End → Type 0
+HasNoBlock (end.BadEdge zero) = ⊤
+HasNoBlock (end.BadEdge (suc at)) = ⊥
+HasNoBlock answer = ComesBeforeBlocks answer
+
 -- the blocks that come back with an end, of a device that has so many: their numbers are those from 0 on, each once; all of them
--- where the script was run; none where it was refused
+-- where the script was run, or a record is no edge; none where it was refused, or a file is none of edges
 pub record AreBlocks (blocks : ℕ) (answer : End) (slots : List Shown) : Type 0 where
   pub numbers : IsPermutation (map (λ s. s.number) slots) (range_with_len 0 (length slots))
   pub most : length slots ≤ blocks
-  pub all : IsSurelyRun answer → length slots ≡ blocks
+  pub all : HasAllBlocks answer → length slots ≡ blocks
   pub all_or_none : BeganCommands answer → (length slots ≡ blocks) ⊎ (length slots ≡ 0)
-  pub none : ComesBeforeBlocks answer → length slots ≡ 0
+  pub none : HasNoBlock answer → length slots ≡ 0

@@ -6,6 +6,7 @@ pub mod Load
 pub mod Outside
 pub mod Replies
 pub mod Report
+pub mod Reported
 pub mod RunOver
 pub mod RunWords
 pub mod SimOver

@@ -18,15 +18,15 @@ use Rattle.ppq_words.specs.ppq_script.declared.check.CheckFault.TheVariants as c
 use Rattle.ppq_words.specs.ppq_script.declared.form.Form.{Form}
 use Rattle.ppq_words.specs.ppq_script.Reading.{Reading, command_list}
 use Rattle.ppq_words.specs.Reading.{Reading as Arguments, sizes_at}
-use Rattle.ppq_jobs.specs.ppq_engine.Ends.{Class, Finished, Refused, Unmade, Unread, Broken, Shrunk, Spoiled, Full, GaveUp, class_of, IsRefusal, IfFile}
+use Rattle.ppq_jobs.specs.ppq_engine.Ends.{Class, Finished, Refused, Unmade, Unread, Broken, Shrunk, Spoiled, Full, GaveUp, class_of, IsRefusal, IfFile, IsCompleted}
 use Rattle.ppq_jobs.specs.ppq_engine.Files.{IsReadInScript}
 use Rattle.ppq_jobs.specs.ppq_engine.Loads.{most_of, least_of, begins_limit, FitsWritten, IsLoad}
 use Rattle.ppq_jobs.specs.ppq_engine.Output.{AreFilesOf, given_of, output_of, load_of, crest_of, TakesWithin}
-use Rattle.ppq_jobs.specs.ppq_engine.Refusal.{HasNoRoom}
+use Rattle.ppq_jobs.specs.ppq_engine.Refusal.{HasRoom, HasNoRoom}
 use Rattle.ppq_jobs.specs.ppq_engine.Running.{HasChanged}
 use Rattle.ppq_jobs.specs.ppq_engine.Work.{work_of}
 use Rattle.ppq_jobs.specs.ppq_engine.declared.end.End.{End}
-use Rattle.ppq_jobs.specs.ppq_engine.declared.end.End.TheVariants.{BadLine, BudgetTooSmall, FileChanged, NoDevice, BadEdge}
+use Rattle.ppq_jobs.specs.ppq_engine.declared.end.End.TheVariants.{BadLine, BudgetTooSmall, Memory, FileChanged, NoDevice, BadEdge}
 use Rattle.ppq_cli.specs.Budget.{need_for, IsBelowNeed}
 use Rattle.ppq_cli.specs.Device.{IsSurelyRun}
 use Rattle.ppq_cli.specs.Load.{check_end, load_end, script_kinds}
@@ -117,6 +117,17 @@ RefusalOf words told replied r bytes end = ¬ IsRefusal (class_of end)
 -- the script was not loaded; or it was, as some bytes, and a refusal of it is right for the records that its head names
 abbrev pub RefusalIsRight : Option Files → (Reply → Type 0) → Arguments → End → Type 0
 RefusalIsRight told replied r end = IsUnloaded told replied r.script end ⊎ OfLoaded told replied r.script (λ bytes. RefusalOf (type_of bytes).words told replied r bytes end)
+
+-- an end that names no fault is a refusal, which is right, or want of memory; or the script was run, and if there is room for the greatest size that
+-- its commands can lead to, it was done, or memory was wanting, or a file had changed and the library does not tell
+abbrev pub CompletesOf : {R : Type 0} → Words R → Option Files → (Reply → Type 0) → Arguments → List ℕ → End → Type 0
+CompletesOf words told replied r bytes end =
+    (IsRefusal (class_of end) × RefusalOf words told replied r bytes end)
+    ⊎ ((end ≡ Memory) ⊎ OfRun words told replied r bytes (λ script. HasRoom (sizes_at words.WIDTH r) (begins_limit (command_list script)) (most_of words (command_list script)) → IsCompleted told end))
+
+-- the script was not loaded; or the library gave it as some bytes, and so it is with the records that its head names
+abbrev pub CompletesAsGiven : Option Files → (Reply → Type 0) → Arguments → End → Type 0
+CompletesAsGiven told replied r end = IsUnloaded told replied r.script end ⊎ OfLoaded told replied r.script (λ bytes. CompletesOf (type_of bytes).words told replied r bytes end)
 
 -- What follows is of a script that was run: where blocks and sink tell, and for all files that the library tells, or any where the
 -- script reads none.

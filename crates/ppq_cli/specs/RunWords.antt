@@ -1,5 +1,5 @@
 -- The words of the contract of `run_words`, in the order of its clauses; those that speak of the outside alone are in `Outside`. `run_over`, `run_and_report` and `run_twice` use them too.
-use Rattle.std.specs.Prelude.{◌≡◌, ◌⊎◌, ℕ, List, length, Option, Some, None, if◌then◌else◌, IfSome, nat_lt, MatchOption, map, String}
+use Rattle.std.specs.Prelude.{◌≡◌, ◌⊎◌, ℕ, List, length, Option, Some, None, if◌then◌else◌, IfSome, nat_lt, MatchOption, map, slice_get, take, String}
 use Rattle.std.specs.declared.alloc.Global.{Global}
 use Rattle.ppq_jobs.specs.ppq_engine.ppq_load.Given.{records_of}
 use Rattle.ppq_words.specs.ppq_outside.Shown.{Shown}
@@ -9,6 +9,7 @@ use Rattle.ppq_words.specs.ppq_outside.declared.rack.Rack.{Ghosts as RackShows}
 use Rattle.ppq_words.specs.ppq_outside.declared.sink.Sink.{Ghosts as SinkShows}
 use Rattle.ppq_words.specs.ppq_script.Words.{Words}
 use Rattle.ppq_words.specs.ppq_script.declared.command.Command.{Command}
+use Rattle.ppq_words.specs.ppq_script.declared.command.Command.TheVariants.{Bulk}
 use Rattle.ppq_words.specs.ppq_script.Lines.{numbered_of, names_of, first_bad_by}
 use Rattle.ppq_words.specs.ppq_script.Files.{name_at, is_usable}
 use Rattle.ppq_words.specs.ppq_script.Checking.{with_sizes}
@@ -18,14 +19,14 @@ use Rattle.ppq_jobs.specs.ppq_engine.declared.end.End.{End}
 use Rattle.ppq_jobs.specs.ppq_engine.declared.end.End.TheVariants.{Done, BadLine, Usage, ReadFault, NoFreeBlock, Memory, NoDevice, NoScript, ScriptTooLong}
 use Rattle.ppq_jobs.specs.ppq_engine.declared.end.Ended.{Ended}
 use Rattle.ppq_jobs.specs.ppq_engine.Output.{output_of, load_of, crest_of, TakesWithin}
-use Rattle.ppq_jobs.specs.ppq_engine.Loads.{most_of, least_of, begins_limit, FitsWritten}
+use Rattle.ppq_jobs.specs.ppq_engine.Loads.{IsLoad, most_of, least_of, begins_limit, FitsWritten}
 use Rattle.ppq_jobs.specs.ppq_engine.Refusal.{HasRoom, HasNoRoom}
 use Rattle.ppq_jobs.specs.ppq_engine.Ends.{BeganCommands, NoFault}
 use Rattle.ppq_jobs.specs.ppq_engine.Work.{work_of}
 use Rattle.ppq_cli.specs.Budget.{refusal_for}
 use Rattle.ppq_cli.specs.Outside.{WritesText, IsHigher, OutsideKept, Unreadable}
 use Rattle.ppq_cli.specs.Load.{script_kinds}
-use Rattle.ppq_cli.specs.Replies.{Files, RefusalIsRight, RunIsRight, TransfersAreRight, AsksAreRight}
+use Rattle.ppq_cli.specs.Replies.{Files, RefusalIsRight, CompletesAsGiven, RunIsRight, TransfersAreRight, AsksAreRight}
 use Rattle.ppq_cli.specs.Transfers.{TransfersWithin}
 use Rattle.ppq_cli.specs.Types.{RecordType, type_of}
 
@@ -83,6 +84,26 @@ WritesPart told before now type r given commands = TakesPart (told before) (told
 -- at least what the first commands print, as long as there is room for their load
 abbrev pub WritesRoom : {S : Type 0} → (S → Option (List ℕ)) → S → S → About
 WritesRoom told before now type r given commands = TakesWithin type.words r.form given (told before) (told now) (sizes_at type.words.WIDTH r) commands
+
+-- just what the commands in front of one of which this holds print
+pub record PrintsTo {R : Type 0} (Is : Command R → Type 0) (print : List (Command R) → List ℕ) (before now : Option (List ℕ)) (commands : List (Command R)) : Type 0 where
+  pub done : ℕ
+  pub command : Command R
+  pub here : slice_get commands done ≡ Some command
+  pub is : Is command
+  pub took : TakesAll before now (print (take done commands))
+
+-- a command `bulk`
+abbrev pub ReadsFile : {R : Type 0} → Command R → Type 0
+ReadsFile command = (file : ℕ) × ((size : ℕ) × (command ≡ Bulk file size))
+
+-- where a read failed: nothing, or just what the commands in front of a `bulk` print
+abbrev pub WritesToFile : {S : Type 0} → (S → Option (List ℕ)) → S → S → About
+WritesToFile told before now type r given commands = (told now ≡ told before) ⊎ PrintsTo ReadsFile (output_of type.words r.form given) (told before) (told now) commands
+
+-- where memory was wanting: nothing, or just what the commands in front of a `bulk`, `gen`, `bulk_begin` or `limit_begin` print
+abbrev pub WritesToLoad : {S : Type 0} → (S → Option (List ℕ)) → S → S → About
+WritesToLoad told before now type r given commands = (told now ≡ told before) ⊎ PrintsTo IsLoad (output_of type.words r.form given) (told before) (told now) commands
 
 -- if the script was run as the library gave it, all of that holds of what the sink took and of the blocks
 abbrev pub IfRan :
@@ -189,6 +210,8 @@ pub record RunsWords
     (old_library new_library : L) (old_rack new_rack : K) (old_out new_out : O) (ended : Ended S) : Type 0 where
   pub written : WritesText (OfOutput (rack.tells old_rack) library.told old_library words) (sink.told old_out) (sink.told new_out) ended.end
   pub room : ended.end ≡ NoFreeBlock → rack.tells old_rack → OfScript library.told old_library words (WritesRoom sink.told old_out new_out)
+  pub to_file : ended.end ≡ ReadFault → rack.tells old_rack → OfScript library.told old_library words (WritesToFile sink.told old_out new_out)
+  pub to_load : ended.end ≡ Memory → rack.tells old_rack → OfScript library.told old_library words (WritesToLoad sink.told old_out new_out)
   pub ran : IfRan words rack.tells old_rack library.told old_library library.replied new_library sink.told old_out new_out shown ended
   pub used : ended.end ≡ Done → rack.tells old_rack → OfScript library.told old_library words (UsesDevice crest_by shown ended)
   pub used_any : ended.end ≡ Done → OfScript library.told old_library words (UsesDevice least_by shown ended)
@@ -203,3 +226,4 @@ pub record RunsWords
   pub above_any : ended.end ≡ NoFreeBlock → OfScript library.told old_library words (IsTooLarge most_by)
   pub complete : rack.tells old_rack → NoFault ended.end → Completes load_by library.told old_library words ended.end
   pub complete_any : NoFault ended.end → Completes most_by library.told old_library words ended.end
+  pub complete_given : NoFault ended.end → OfWords words (λ r. CompletesAsGiven (library.told old_library) (library.replied new_library) r ended.end)

@@ -10,8 +10,8 @@ ghost use Rattle.ppq_jobs.specs.ppq_engine.declared.end.End.TheVariants as ends;
 ghost use Rattle.ppq_jobs.specs.ppq_engine.declared.end.End.TheVariants.{Done, Usage, ReadFault, WriteFault, DeviceFault, NoFreeBlock, NoDevice};
 ghost use Rattle.ppq_cli.specs.Device.{AreBlocks};
 ghost use Rattle.ppq_cli.specs.Outside.{MayWrite};
-ghost use Rattle.ppq_cli.specs.Replies.{RefusalIsRight, AsksAreRight};
-ghost use Rattle.ppq_cli.specs.RunWords.{reading, OfWords, OfScript, WritesAll, WritesPart, WritesRoom, IfRan, UsesDevice, TransfersBounded, AreTransfersRight};
+ghost use Rattle.ppq_cli.specs.Replies.{RefusalIsRight, CompletesAsGiven, AsksAreRight};
+ghost use Rattle.ppq_cli.specs.RunWords.{reading, OfWords, OfScript, WritesAll, WritesPart, WritesRoom, WritesToFile, WritesToLoad, IfRan, UsesDevice, TransfersBounded, AreTransfersRight};
 ghost use Rattle.ppq_cli.specs.RunWords.{load_by, crest_by, most_by, least_by, refusal_of, IsAnswer, IsTooLarge, Completes};
 
 use crate::context::Context;
@@ -43,7 +43,9 @@ use std::alloc::Global;
 /// `Memory`, unless the outcome names a fault, if there is room for its load: on the device, or in one heap
 /// where the script begins no limit session. This is said of an outside that is visible to proofs; of any other
 /// library, the outcomes, how few blocks are written and read, and the output of a script that reads no file,
-/// are those of the bytes that its reads returned as the script.
+/// are those of the bytes that its reads returned as the script. That script ends `Done`, `Memory` or
+/// `FileChanged`, unless it is refused or the outcome names a fault, if there is room for the greatest load that
+/// its commands can lead to.
 ///
 /// What the outcomes say, besides `Done`:
 ///
@@ -85,6 +87,8 @@ where
     ensures part { K.tells rack.old → OfScript L.told library.old words.now (WritesPart O.told out.old out.new) }
     ensures nothing { MayWrite result.end ⊎ (O.told out.new ≡ O.told out.old) }
     ensures room { result.end ≡ NoFreeBlock → K.tells rack.old → OfScript L.told library.old words.now (WritesRoom O.told out.old out.new) }
+    ensures to_file { result.end ≡ ReadFault → K.tells rack.old → OfScript L.told library.old words.now (WritesToFile O.told out.old out.new) }
+    ensures to_load { result.end ≡ ends.Memory → K.tells rack.old → OfScript L.told library.old words.now (WritesToLoad O.told out.old out.new) }
     ensures ran { IfRan words.now K.tells rack.old L.told library.old L.replied library.new O.told out.old out.new K.Slot.shown result }
     ensures used { result.end ≡ Done → K.tells rack.old → OfScript L.told library.old words.now (UsesDevice crest_by K.Slot.shown result) }
     ensures used_any { result.end ≡ Done → OfScript L.told library.old words.now (UsesDevice least_by K.Slot.shown result) }
@@ -126,6 +130,7 @@ where
     // Completeness: a script that is not refused, with room for its load, is done, unless an allocation or the outside failed.
     ensures complete { K.tells rack.old → NoFault result.end → Completes load_by L.told library.old words.now result.end }
     ensures complete_any { NoFault result.end → Completes most_by L.told library.old words.now result.end }
+    ensures complete_given { NoFault result.end → OfWords words.now (λ r. CompletesAsGiven (L.told library.old) (L.replied library.new) r result.end) }
 {
     let found = match read_words(alloc, words) {
         Ok(found) => found,

@@ -7,7 +7,7 @@ use Rattle.ppq_jobs.specs.ppq_engine.Ends.{BeganCommands}
 use Rattle.ppq_jobs.specs.ppq_engine.declared.end.End.{End}
 use Rattle.ppq_jobs.specs.ppq_engine.declared.end.End.TheVariants.{BudgetTooSmall}
 use Rattle.ppq_cli.specs.Budget.{refusal_by}
-use Rattle.ppq_cli.specs.Device.{AreBlocks, IsSurelyRun}
+use Rattle.ppq_cli.specs.Device.{AreBlocks, HasAllBlocks}
 use Rattle.ppq_cli.specs.Outside.{Faults}
 use Rattle.ppq_cli.specs.RunWords.{IsTriedOrRefusal}
 use Rattle.ppq_cli.proofs.Blocks.{in_order, made_just, made_nothing}
@@ -30,7 +30,7 @@ returns-then-memory-fixed-clause-unmade g c =
       answer = subst (IsTriedOrRefusal (refusal_by plan)) (sym is) (small_answer plan below);
       unbegun = λ began. subst BeganCommands is began;
       made = made_nothing (λ s. (shown s).number) ended.blocks.items (g.K.Rack.made c.args.rack.now c.args.device.now) none;
-      blocks = no_blocks plan.blocks ended.end (map shown ended.blocks.items) (λ run. subst IsSurelyRun is run) (ap (map shown) none);
+      blocks = no_blocks plan.blocks ended.end (map shown ended.blocks.items) (λ all. subst HasAllBlocks is all) (ap (map shown) none);
       untouched = no_slots shown ended.blocks.items none;
       kept = λ tells. tells;
       faults = λ of_library of_sink. subst (Faults Rose of_library of_library faults faults of_sink of_sink) (sym is) (same_faults Rose of_library faults of_sink (BudgetTooSmall plan.need) tt);

@@ -11,7 +11,7 @@ use Rattle.ppq_cli.specs.DeviceFor.{LacksDevice}
 use Rattle.ppq_cli.specs.SweepOver.{IsSweptOrRefusal}
 use Rattle.ppq_cli.specs.SweepWords.{sweep_device, sweep_blocks, sweep_sizes, wanted_by}
 use Rattle.ppq_cli.proofs.Making.{ran_outside}
-use Rattle.ppq_cli.proofs.SweepOver.{swept_made, swept_unrefused, swept_answer, unmade_sweeps}
+use Rattle.ppq_cli.proofs.SweepOver.{swept_made, swept_unrefused, swept_answer, bad_counted, unmade_sweeps}
 use Rattle.ppq_cli.proofs.sweep.sweep_over.Goals as goal
 
 pub returns-in-Ok : goal.returns-in-Ok
@@ -35,7 +35,7 @@ returns-in-Ok g c =
       asks = e.asks;
       outside =
           ran_outside g.L.Library g.K.Rack g.O.Sink g.K.Slot.Slot.shown sweep_device sweep_blocks plan r (ap (λ (p : Plan). p.blocks) planned) c.args.rack.now c.device_for.new.rack c.run_graph.result c.args.library.now
-          c.run_graph.new.library c.args.out.now c.run_graph.new.out 16 c.in-Ok.blocks.items made (swept_made plan.sizes end e.answer) (swept_unrefused plan.sizes end made.enough e.answer) e.blocks e.unfailed e.failed
+          c.run_graph.new.library c.args.out.now c.run_graph.new.out 16 c.in-Ok.blocks.items made (swept_made plan.sizes end e.answer) (swept_unrefused plan.sizes end made.enough e.answer (λ at is. bad_counted (g.L.Library.told c.args.library.now) (g.L.Library.replied c.run_graph.new.library) (wanted_by r c.args.bytes) at (e.bad at is))) e.blocks e.unfailed e.failed
           e.files e.remembers e.read e.write e.library_later (λ read written. e.library_stays read) e.later e.stays;
     }
 

@@ -4,10 +4,10 @@ use Rattle.ppq_words.specs.Reading.{Reading, as_reading}
 use Rattle.ppq_words.proofs.ppq_outside.Replies.{no_replies}
 use Rattle.ppq_files.specs.Whole.{IsLoadedAs}
 use Rattle.ppq_files.specs.declared.whole.WholeFault.TheVariants.{Memory}
-use Rattle.ppq_cli.specs.Replies.{AsksAreRight, RefusalIsRight}
+use Rattle.ppq_cli.specs.Replies.{AsksAreRight, RefusalIsRight, CompletesAsGiven}
 use Rattle.ppq_jobs.proofs.ppq_engine.Running.{takes_none}
-use Rattle.ppq_cli.specs.Device.{IsSurelyRun}
-use Rattle.ppq_cli.specs.RunWords.{reading, WritesPart}
+use Rattle.ppq_cli.specs.Device.{IsSurelyRun, HasAllBlocks}
+use Rattle.ppq_cli.specs.RunWords.{reading, WritesPart, WritesToFile, WritesToLoad}
 use Rattle.ppq_cli.proofs.Blocks.{made_nothing_named}
 use Rattle.ppq_cli.proofs.Ends.{no_blocks, unloaded_rose, unloaded_stays}
 use Rattle.ppq_cli.proofs.Outside.{rose_below}
@@ -20,6 +20,25 @@ use Rattle.ppq_cli.proofs.top_call.run_words.Goals as goal
 pub returns-in-Err-clause-part : goal.returns-in-Err-clause-part
 returns-in-Err-clause-part g c = λ tells. of_every g.L.Library.told c.args.library.now c.args.words.now (WritesPart g.O.Sink.told c.args.out.now c.args.out.now) (λ type r given commands. takes_none (g.O.Sink.told c.args.out.now) _)
 
+-- nothing was written
+pub returns-in-Err-clause-to_load : goal.returns-in-Err-clause-to_load
+returns-in-Err-clause-to_load g c = λ is tells. of_every g.L.Library.told c.args.library.now c.args.words.now (WritesToLoad g.O.Sink.told c.args.out.now c.args.out.now) (λ type r given commands. inl refl)
+
+pub returns-in-Err-clause-to_file : goal.returns-in-Err-clause-to_file
+returns-in-Err-clause-to_file g c = λ is tells. of_every g.L.Library.told c.args.library.now c.args.words.now (WritesToFile g.O.Sink.told c.args.out.now c.args.out.now) (λ type r given commands. inl refl)
+
+pub returns-in_default-clause-to_load : goal.returns-in_default-clause-to_load
+returns-in_default-clause-to_load g c = λ is tells. of_every g.L.Library.told c.args.library.now c.args.words.now (WritesToLoad g.O.Sink.told c.args.out.now c.args.out.now) (λ type r given commands. inl refl)
+
+pub returns-in_default-clause-to_file : goal.returns-in_default-clause-to_file
+returns-in_default-clause-to_file g c = λ is tells. of_every g.L.Library.told c.args.library.now c.args.words.now (WritesToFile g.O.Sink.told c.args.out.now c.args.out.now) (λ type r given commands. inl refl)
+
+pub returns-in-Err-read_whole-clause-to_load : goal.returns-in-Err-read_whole-clause-to_load
+returns-in-Err-read_whole-clause-to_load g c = λ is tells. of_every g.L.Library.told c.args.library.now c.args.words.now (WritesToLoad g.O.Sink.told c.args.out.now c.args.out.now) (λ type r given commands. inl refl)
+
+pub returns-in-Err-read_whole-clause-to_file : goal.returns-in-Err-read_whole-clause-to_file
+returns-in-Err-read_whole-clause-to_file g c = λ is tells. of_every g.L.Library.told c.args.library.now c.args.words.now (WritesToFile g.O.Sink.told c.args.out.now c.args.out.now) (λ type r given commands. inl refl)
+
 pub returns-in-Err-clause-ran : goal.returns-in-Err-clause-ran
 returns-in-Err-clause-ran g c = of_any (reading c.args.words.now) _ (λ r. inl (record { maybe = λ run. subst IsSurelyRun c.without_blocks.ensures.end run; same = refl }))
 
@@ -27,7 +46,7 @@ pub returns-in-Err-clause-blocks : goal.returns-in-Err-clause-blocks
 returns-in-Err-clause-blocks g c =
     let ended = c.without_blocks in
     let shown = g.K.Slot.Slot.shown in
-    of_any (reading c.args.words.now) _ (λ r. no_blocks r.given.numbers.blocks ended.result.end (map shown ended.result.blocks.items) (λ run. subst IsSurelyRun ended.ensures.end run) (ap (map shown) ended.ensures.none))
+    of_any (reading c.args.words.now) _ (λ r. no_blocks r.given.numbers.blocks ended.result.end (map shown ended.result.blocks.items) (λ all. subst HasAllBlocks ended.ensures.end all) (ap (map shown) ended.ensures.none))
 
 pub returns-in-Err-clause-complete : goal.returns-in-Err-clause-complete
 returns-in-Err-clause-complete g c = λ tells fault. of_any (reading c.args.words.now) _ (λ r. of_any (g.L.Library.told c.args.library.now) _ (λ files. of_any (files r.script) _ (λ bytes good room. inr c.without_blocks.ensures.end)))
@@ -93,6 +112,17 @@ returns-in-Err-read_whole-clause-refused g c =
     let P : Option Reading → Type 0 = λ o. IfSome o (λ r. RefusalIsRight (g.L.Library.told c.args.library.now) (g.L.Library.replied c.read_whole.new.library) r c.without_blocks-in-Err-read_whole.result.end) in
     subst P (sym named) (inl (c.in-Err-read_whole.fault, (c.without_blocks-in-Err-read_whole.ensures.end ∙ c.end_of.ensures, c.in-Err-read_whole.ensures.refused)))
 
+-- a script that was not loaded
+pub returns-in-Err-clause-complete_given : goal.returns-in-Err-clause-complete_given
+returns-in-Err-clause-complete_given g c = λ fault. of_any (reading c.args.words.now) _ (λ r. inl (Memory, (c.without_blocks.ensures.end, tt)))
+
+pub returns-in-Err-read_whole-clause-complete_given : goal.returns-in-Err-read_whole-clause-complete_given
+returns-in-Err-read_whole-clause-complete_given g c = λ fault.
+    let r = as_reading c.in-Some.arguments in
+    let named : reading c.args.words.now ≡ Some r = sym c.in-Ok.ensures.reading ∙ ap (option_map as_reading) c.in-Some.is in
+    let P : Option Reading → Type 0 = λ o. IfSome o (λ r. CompletesAsGiven (g.L.Library.told c.args.library.now) (g.L.Library.replied c.read_whole.new.library) r c.without_blocks-in-Err-read_whole.result.end) in
+    subst P (sym named) (inl (c.in-Err-read_whole.fault, (c.without_blocks-in-Err-read_whole.ensures.end ∙ c.end_of.ensures, c.in-Err-read_whole.ensures.refused)))
+
 pub returns-in-Ok-read_whole : goal.returns-in-Ok-read_whole
 returns-in-Ok-read_whole g c =
     let r = as_reading c.in-Some.arguments in
@@ -105,6 +135,8 @@ returns-in-Ok-read_whole g c =
       part = e.written.part;
       nothing = e.written.nothing;
       room = e.room;
+      to_file = e.to_file;
+      to_load = e.to_load;
       ran = e.ran;
       used = e.used;
       used_any = e.used_any;
@@ -138,4 +170,5 @@ returns-in-Ok-read_whole g c =
       above_any = e.above_any;
       complete = e.complete;
       complete_any = e.complete_any;
+      complete_given = e.complete_given;
     }

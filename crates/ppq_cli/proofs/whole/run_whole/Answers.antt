@@ -10,6 +10,8 @@ returns g c =
         nothing = e.nothing;
       };
       room = e.room;
+      to_file = e.to_file;
+      to_load = e.to_load;
       ran = e.ran;
       used = e.used;
       used_any = e.used_any;
@@ -49,4 +51,5 @@ returns g c =
       above_any = e.above_any;
       complete = e.complete;
       complete_any = e.complete_any;
+      complete_given = e.complete_given;
     }
