@@ -1,0 +1,6 @@
+pub mod Asked
+pub mod Concluding
+pub mod Ended
+pub mod Lending
+pub mod Serving
+pub mod Talked
