@@ -14,6 +14,8 @@ mod parts;
 #[cfg(test)]
 mod script;
 #[cfg(test)]
+mod serve_arguments;
+#[cfg(test)]
 mod sim_arguments;
 #[cfg(test)]
 mod sweep_arguments;
