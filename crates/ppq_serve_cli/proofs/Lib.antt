@@ -1,0 +1,3 @@
+pub mod Begun
+pub mod Devices
+pub mod Named
