@@ -1,6 +1,6 @@
 -- The commands of requests: none needs a session, and those of several follow each other.
-use Rattle.std.proofs.Common.{◌≡◌, ◌∙◌, ◌<◌, ◌≤◌, ◌==◌, ℕ, zero, suc, Bool, List, [], ◌∷◌, ◌++◌, length, map, Option, None, Some, refl, sym, ap, subst, arith, append_assoc}
-use Rattle.std.specs.Prelude.{is_some, true, false, option_map, Result, ⊤}
+use Rattle.std.proofs.Common.{◌≡◌, ◌∙◌, ◌==◌, ℕ, zero, suc, List, [], ◌∷◌, ◌++◌, length, map, Option, None, Some, refl, sym, ap, subst, arith}
+use Rattle.std.specs.Prelude.{is_some, true, false, Result, ⊤}
 use Rattle.std.specs.List.{AllByRecursion as Each}
 use Rattle.ppq_engine.specs.ppq_script.Words.{Words}
 use Rattle.ppq_engine.specs.ppq_script.declared.command.Command.{Command}

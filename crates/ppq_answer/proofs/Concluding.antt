@@ -1,18 +1,16 @@
 -- What is gathered is put: all of it, or the sink failed.
-use Rattle.std.proofs.Common.{◌≡◌, ◌∙◌, ◌<◌, ◌≤◌, ℕ, List, [], ◌∷◌, ◌++◌, Option, None, refl, sym, ap, subst, arith, append_assoc, append-nil}
-use Rattle.std.specs.Prelude.{Result, Ok, Err, ⊤}
-use Rattle.std.specs.List.{AllByRecursion as Each}
+use Rattle.std.proofs.Common.{◌≡◌, ◌∙◌, ◌≤◌, ℕ, List, [], ◌++◌, Option, None, sym, ap, subst, arith, append_assoc, append-nil}
+use Rattle.std.specs.Prelude.{Ok, Err, ⊤}
 use Rattle.ppq_engine.specs.ppq_script.Words.{Words}
 use Rattle.ppq_engine.specs.ppq_script.declared.form.Form.{Form}
 use Rattle.ppq_engine.specs.ppq_script.declared.command.Command.{Command}
-use Rattle.ppq_engine.specs.ppq_script.Reading.{command_list}
 use Rattle.ppq_engine.specs.ppq_script.ppq_outside.Told.{TakesAll, TakesPart, Rose}
 use Rattle.ppq_engine.specs.ppq_queue.Holding.{Holding}
 use Rattle.ppq_engine.specs.Output.{outside, given_of, state_of, output_of, output_from}
-use Rattle.ppq_engine.specs.Running.{IsGathered, LendsQueue}
+use Rattle.ppq_engine.specs.Running.{IsGathered}
 use Rattle.ppq_engine.specs.declared.stop.Stop.TheVariants.{Sink}
 use Rattle.ppq_engine.proofs.Orders.{HasLaws}
-use Rattle.ppq_engine.proofs.Running.{output_from-append, gathered-all, gathered-part}
+use Rattle.ppq_engine.proofs.Running.{output_from-append, gathered-part}
 use Rattle.ppq_engine.proofs.ppq_load.ppq_queue.ppq_outside.Takes.{takes_two, part_of_more}
 use Rattle.ppq_answer.specs.Serving.{script_of, Served, Executes, StopsAmong, Serves}
 use Rattle.ppq_answer.proofs.Lending.{commands-are}

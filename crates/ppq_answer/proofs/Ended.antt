@@ -1,16 +1,15 @@
 -- How a talk over a queue that was opened ends.
-use Rattle.std.proofs.Common.{◌≡◌, ◌∙◌, ◌<◌, ◌≤◌, ◌+◌, ℕ, zero, suc, false, List, [], ◌∷◌, ◌++◌, length, take, Option, Some, None, refl, sym, ap, subst, arith, inl, inr, append-nil}
-use Rattle.std.specs.Prelude.{slice_get, ⊤}
+use Rattle.std.proofs.Common.{◌≡◌, ◌∙◌, ◌<◌, ◌≤◌, ℕ, zero, suc, false, List, [], ◌∷◌, ◌++◌, Option, Some, None, refl, sym, ap, subst, arith, inl, inr, append-nil}
+use Rattle.std.specs.Prelude.{slice_get}
 use Rattle.std.specs.List.{AllByRecursion as Each}
 use Rattle.ppq_frames.specs.ppq_outside.declared.source.Source.{Ghosts as SourceShows}
-use Rattle.ppq_frames.specs.Frames.{Came}
 use Rattle.ppq_engine.specs.ppq_script.Words.{Words}
 use Rattle.ppq_engine.specs.ppq_script.declared.form.Form.TheVariants.{Bytes}
 use Rattle.ppq_engine.specs.ppq_script.declared.command.Command.{Command}
-use Rattle.ppq_engine.specs.ppq_script.declared.command.Command.TheVariants.{Size, Bulk}
+use Rattle.ppq_engine.specs.ppq_script.declared.command.Command.TheVariants.{Bulk}
 use Rattle.ppq_engine.specs.ppq_script.Reading.{command_list}
 use Rattle.ppq_engine.specs.ppq_script.ppq_outside.Shown.{Shown, AllTell}
-use Rattle.ppq_engine.specs.ppq_script.ppq_outside.Told.{TakesAll, TakesPart, Rose}
+use Rattle.ppq_engine.specs.ppq_script.ppq_outside.Told.{TakesAll, TakesPart}
 use Rattle.ppq_engine.specs.ppq_load.ppq_budget.Sizes.{Numbers}
 use Rattle.ppq_engine.specs.ppq_array.Kept.{SameSlots, SameSums, AreQuiet, weight_at, all_writes}
 use Rattle.ppq_engine.specs.ppq_array.declared.store_fault.StoreFault.TheVariants.{NoFreeBlock, Device}
@@ -18,10 +17,10 @@ use Rattle.ppq_engine.specs.ppq_queue.Holding.{Holding, NamesNeed}
 use Rattle.ppq_engine.specs.ppq_queue.declared.fault.OpenFault.{OpenFault}
 use Rattle.ppq_engine.specs.ppq_queue.declared.fault.OpenFault.TheVariants.{TooSmall, Memory}
 use Rattle.ppq_engine.specs.Loads.{FitsWritten, least_of}
-use Rattle.ppq_engine.specs.Outcome.{EndSays, CountsStay, PutsStopped}
-use Rattle.ppq_engine.specs.Output.{State, outside, text_of, after, output_of, output_from, crest_of, given_of, ReadsNoFile, AreFilesOf}
+use Rattle.ppq_engine.specs.Outcome.{PutsStopped}
+use Rattle.ppq_engine.specs.Output.{State, outside, text_of, after, output_of, output_from, crest_of, given_of, ReadsNoFile}
 use Rattle.ppq_engine.specs.Popping.{NotByFile}
-use Rattle.ppq_engine.specs.Running.{HasRun, IsGathered, LendsQueue, LibraryAfter, SinkAfter, ChangedIn, open_end}
+use Rattle.ppq_engine.specs.Running.{LendsQueue, LibraryAfter, SinkAfter, ChangedIn, open_end}
 use Rattle.ppq_engine.specs.declared.end.End.{End}
 use Rattle.ppq_engine.specs.declared.end.End.TheVariants as end
 use Rattle.ppq_engine.specs.declared.stop.Stop.{Stop}
@@ -37,7 +36,7 @@ use Rattle.ppq_engine.proofs.Stops.{part-stopped, says-stopped, not-by_limit, li
 use Rattle.ppq_engine.proofs.ppq_load.ppq_queue.Slots.{slots-sums}
 use Rattle.ppq_engine.proofs.ppq_load.ppq_queue.ppq_spill.SameSlots.{SameSlots-trans}
 use Rattle.ppq_engine.proofs.ppq_load.ppq_queue.ppq_outside.Takes.{takes_nothing, all_is_part}
-use Rattle.ppq_answer.specs.Answers.{no_files, no_replies, AnswersAll, FinishesAs, TalkSays, Unopened, OutcomeSays, ServesTalk}
+use Rattle.ppq_answer.specs.Answers.{no_files, no_replies, AnswersAll, FinishesAs, TalkSays, OutcomeSays, ServesTalk}
 use Rattle.ppq_answer.specs.Serving.{script_of, Served, Halted}
 use Rattle.ppq_answer.specs.Talking.{talk_of, AllAnswered, Halts}
 use Rattle.ppq_answer.specs.declared.halt.Halt.{Halt}

@@ -1,6 +1,6 @@
 -- Commands that need no session, as commands of a script.
-use Rattle.std.proofs.Common.{◌≡◌, ◌∙◌, ◌+◌, ℕ, Bool, true, false, List, [], ◌∷◌, ◌++◌, length, take, drop, Option, None, Some, refl, sym, ap, ap₂, subst, arith}
-use Rattle.std.specs.Prelude.{slice_get, map, unwrap_or, ◌||◌, ◌&&◌}
+use Rattle.std.proofs.Common.{◌≡◌, ◌∙◌, ◌+◌, ◌/◌, ℕ, Bool, true, false, List, [], ◌∷◌, ◌++◌, length, take, drop, Option, Some, refl, sym, ap, ap₂, subst}
+use Rattle.std.specs.Prelude.{slice_get, unwrap_or, ◌||◌, ◌&&◌}
 use Rattle.std.specs.List.{AllByRecursion as Each}
 use Rattle.std.proofs.lemmas.List.{map-id}
 use Rattle.std.proofs.lemmas.Simd.{map-map}
@@ -13,11 +13,11 @@ use Rattle.ppq_engine.specs.ppq_script.declared.part.Part.TheVariants as part
 use Rattle.ppq_engine.specs.ppq_script.declared.session.Session.{Session}
 use Rattle.ppq_engine.specs.ppq_script.declared.session.Session.TheVariants.{Outside}
 use Rattle.ppq_engine.specs.ppq_script.Parts.{IsLine, IsPartAt}
-use Rattle.ppq_engine.specs.ppq_script.Reading.{Reading, command_list}
-use Rattle.ppq_engine.specs.ppq_script.Sessions.{turn_of, may_stand, are_in_place}
+use Rattle.ppq_engine.specs.ppq_script.Reading.{command_list}
+use Rattle.ppq_engine.specs.ppq_script.Sessions.{are_in_place}
 use Rattle.ppq_engine.specs.Loads.{is_limit_begin, begins_limit}
 use Rattle.ppq_engine.specs.Running.{LendsQueue}
-use Rattle.ppq_engine.proofs.Lines.{HasLength, session_from}
+use Rattle.ppq_engine.proofs.Lines.{session_from}
 use Rattle.ppq_answer.specs.Serving.{on_a_line, script_of}
 
 -- what holds of each of two lists
@@ -61,7 +61,7 @@ lends-begin (c ∷ cs) each = ap₂ (λ (a b : Bool). a || b) (lend-begins c eac
 pub lends-no_file : {R : Type 0} (c : Command R) → LendsQueue c → (file bytes : ℕ) → c ≡ Bulk file bytes → ⊥
 lends-no_file {R} c l file bytes is = let P : Command R → Type 0 = λ k. LendsQueue k in subst P is l
 
-pub lends-length : {R : Type 0} (w : Words R) (given : ℕ → List R) (c : Command R) → LendsQueue c → HasLength w given c
+pub lends-length : {R : Type 0} (w : Words R) (given : ℕ → List R) (c : Command R) → LendsQueue c → (file bytes : ℕ) → c ≡ Bulk file bytes → length (given file) ≡ bytes / w.WIDTH
 lends-length w given c l = λ file bytes is. absurd (lends-no_file c l file bytes is)
 
 -- the first command behind others is a part of the script

@@ -1,6 +1,6 @@
 -- Commands of requests that are executed one by one, and where they stop.
-use Rattle.std.proofs.Common.{◌≡◌, ◌∙◌, ◌<◌, ◌≤◌, ◌+◌, ℕ, Bool, false, List, [], ◌∷◌, ◌++◌, length, take, max, Option, None, refl, sym, ap, subst, arith, append_assoc, append-nil}
-use Rattle.std.specs.Prelude.{Result, Ok, Err, OnOk, IfErr, ⊤}
+use Rattle.std.proofs.Common.{◌≡◌, ◌∙◌, ◌≤◌, ℕ, Bool, List, [], ◌∷◌, ◌++◌, length, max, Option, None, refl, sym, ap, subst, arith, append_assoc, append-nil}
+use Rattle.std.specs.Prelude.{Result, Ok, Err, ⊤}
 use Rattle.std.specs.List.{AllByRecursion as Each}
 use Rattle.ppq_engine.specs.ppq_script.Words.{Words}
 use Rattle.ppq_engine.specs.ppq_script.declared.form.Form.{Form}
@@ -8,10 +8,9 @@ use Rattle.ppq_engine.specs.ppq_script.declared.command.Command.{Command}
 use Rattle.ppq_engine.specs.ppq_script.declared.part.Part.TheVariants as part
 use Rattle.ppq_engine.specs.ppq_script.ppq_outside.Shown.{AllTell}
 use Rattle.ppq_engine.specs.ppq_load.ppq_budget.Sizes.{Numbers}
-use Rattle.ppq_engine.specs.ppq_array.Kept.{AreQuiet}
 use Rattle.ppq_engine.specs.ppq_queue.Holding.{Holding}
 use Rattle.ppq_engine.specs.Refusal.{Keeps}
-use Rattle.ppq_engine.specs.Calls.{Leaves, Lends, SinkCounts}
+use Rattle.ppq_engine.specs.Calls.{Leaves, Lends}
 use Rattle.ppq_engine.specs.Gathers.{Gathers}
 use Rattle.ppq_engine.specs.Loads.{none_go, all_go, size_after, begins_limit, FitsWritten}
 use Rattle.ppq_engine.specs.Output.{outside, text_of, after, given_of}

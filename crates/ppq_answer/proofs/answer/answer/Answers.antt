@@ -1,4 +1,4 @@
-use Rattle.std.proofs.Common.{◌≡◌, ◌∙◌, List, [], ◌∷◌, ◌++◌, Option, Some, refl, sym, ap, append_assoc, append-nil}
+use Rattle.std.proofs.Common.{◌≡◌, ◌∙◌, List, [], ◌∷◌, ◌++◌, Some, refl, sym, ap, append_assoc, append-nil}
 use Rattle.ppq_engine.specs.ppq_script.Words.{words}
 use Rattle.ppq_engine.specs.ppq_script.declared.command.Command.{Command}
 use Rattle.ppq_engine.specs.ppq_script.declared.command.Command.TheVariants.{Size}

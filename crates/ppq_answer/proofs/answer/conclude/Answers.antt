@@ -1,4 +1,4 @@
-use Rattle.std.proofs.Common.{◌≡◌, [], ◌∷◌}
+use Rattle.std.proofs.Common.{[], ◌∷◌}
 use Rattle.ppq_engine.specs.ppq_script.Words.{words}
 use Rattle.ppq_engine.specs.ppq_script.declared.command.Command.TheVariants.{Size}
 use Rattle.ppq_engine.proofs.Orders.{laws_of}

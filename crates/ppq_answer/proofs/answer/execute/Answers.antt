@@ -1,4 +1,3 @@
-use Rattle.std.proofs.Common.{◌≡◌}
 use Rattle.ppq_engine.specs.ppq_script.Words.{words}
 use Rattle.ppq_engine.proofs.Orders.{laws_of}
 use Rattle.ppq_answer.proofs.Serving.{lend-serves}

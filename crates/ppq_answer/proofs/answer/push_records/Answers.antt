@@ -1,4 +1,4 @@
-use Rattle.std.proofs.Common.{◌≡◌, ◌∙◌, ◌≤◌, List, [], ◌∷◌, ◌++◌, length, map, refl, sym, ap, subst, arith, append-nil, append_assoc}
+use Rattle.std.proofs.Common.{◌≡◌, ◌∙◌, List, [], ◌∷◌, ◌++◌, length, map, refl, sym, ap, subst, arith, append-nil, append_assoc}
 use Rattle.ppq_engine.specs.ppq_script.Words.{words}
 use Rattle.ppq_engine.specs.ppq_script.declared.command.Command.{Command}
 use Rattle.ppq_engine.specs.ppq_script.declared.command.Command.TheVariants.{Push}

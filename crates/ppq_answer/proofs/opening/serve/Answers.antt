@@ -1,16 +1,13 @@
-use Rattle.std.proofs.Common.{◌≡◌, ◌<◌, ◌≤◌, ℕ, List, [], Option, refl, subst, sym, ap, ◌∙◌, arith}
+use Rattle.std.proofs.Common.{◌<◌, List, subst, sym, arith}
 use Rattle.std.specs.Prelude.{map}
 use Rattle.ppq_engine.specs.ppq_script.Words.{words}
 use Rattle.ppq_engine.specs.ppq_script.ppq_outside.Shown.{Shown}
-use Rattle.ppq_engine.specs.ppq_load.ppq_budget.Sizes.{Numbers, batch_of}
-use Rattle.ppq_engine.specs.Running.{open_end}
+use Rattle.ppq_engine.specs.ppq_load.ppq_budget.Sizes.{Numbers}
 use Rattle.ppq_engine.proofs.Orders.{laws_of}
-use Rattle.ppq_engine.proofs.Running.{takes_none}
 use Rattle.ppq_engine.proofs.ppq_load.ppq_queue.Slots.{slots-sums}
 use Rattle.ppq_engine.proofs.ppq_load.ppq_queue.ppq_spill.SameSlots.{SameSlots-refl}
 use Rattle.ppq_engine.specs.declared.end.End.{End}
-use Rattle.ppq_answer.specs.Answers.{no_files, ServesTalk}
-use Rattle.ppq_answer.specs.Talking.{talk_of}
+use Rattle.ppq_answer.specs.Answers.{ServesTalk}
 use Rattle.ppq_answer.specs.declared.outcome.Outcome.TheVariants.{Ended}
 use Rattle.ppq_answer.proofs.Ended.{served-begin, halt-told, slots-halt, unopened-talk, memory-talk}
 use Rattle.ppq_answer.proofs.opening.serve.Goals as goal

@@ -1,4 +1,4 @@
-use Rattle.std.proofs.Common.{◌≡◌, ◌∙◌, ◌≤◌, ◌+◌, ℕ, List, [], ◌∷◌, ◌++◌, length, Option, refl, sym, ap, subst, arith, inl, inr, length-append, append-nil}
+use Rattle.std.proofs.Common.{◌≡◌, ◌∙◌, ◌+◌, ℕ, List, [], ◌∷◌, ◌++◌, length, Option, refl, sym, ap, subst, arith, inl, inr, length-append, append-nil}
 use Rattle.ppq_engine.specs.ppq_script.Words.{words}
 use Rattle.ppq_engine.specs.ppq_script.declared.command.Command.{Command}
 use Rattle.ppq_engine.specs.ppq_script.declared.command.Command.TheVariants.{Size}

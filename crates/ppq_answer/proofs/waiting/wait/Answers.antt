@@ -1,4 +1,4 @@
-use Rattle.std.proofs.Common.{◌≡◌, ◌∙◌, ◌≤◌, ◌+◌, ℕ, List, Option, length, refl, sym, ap, subst, arith, length-append}
+use Rattle.std.proofs.Common.{◌∙◌, ℕ, List, length, refl, sym, ap, subst, arith, length-append}
 use Rattle.ppq_frames.specs.ppq_outside.Told.{Rose}
 use Rattle.ppq_frames.specs.declared.filled.Filled.{Filled}
 use Rattle.ppq_frames.specs.Frames.{IsPart, IsFilled}
