@@ -28,7 +28,7 @@ pub use laws::{drain_laws, frame_laws, load_laws, session_laws};
 pub use machine::Machine;
 pub use ppq_load::{
     BeginFault, Context, FileFault, LoadFault, Maker, OpenFault, Out, Piece, Pieces, Queue,
-    QueueFault, Session, load_file,
+    Session, load_file,
 };
 pub use ppq_script::{
     Command, Form, Head, Library, Memory, Script, Sink, check_files, read, read_head,
