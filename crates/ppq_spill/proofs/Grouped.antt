@@ -135,7 +135,7 @@ module _ {S R : Type 0} (cmp : R → R → Ordering) (bytes_of : R → List ℕ)
       let one = zip.0 in
       let w = wrote j bad (All-head IsWrite j js is) one in
       let err : one.answer ≡ Err x = some_is (Err x) one.answer (Err x) (sym one.done ∙ e) in
-      (block_failed bytes_of record_of width shown one.answer x err j.slot.slot bad.slot j.buf bad.buf w (external 0 (run_of [] 0 []) [] [])).failed
+      omega (arith, (block_failed bytes_of record_of width shown one.answer x err j.slot.slot bad.slot j.buf bad.buf w (external 0 (run_of [] 0 []) [] [])).rose)
 
   -- the slot of a good job holds its records
   pub told_items : (j d : Job (DeviceBlock S R) R) → IsWrite j → Ran j d → IsGood d → Tells (shown j.slot.slot) → block_items record_of width shown (block_of d) ≡ j.buf.items
@@ -211,7 +211,7 @@ module _ {S R : Type 0} (cmp : R → R → Ordering) (bytes_of : R → List ℕ)
           shape = refl;
           went = subst (λ ys. WentWriting (length slots0) s0 (xs ++ t ∷ ys)) (sym to) (WentWriting-weaker (n + length l) (length slots0) s0 (xs ++ t ∷ (b ++ l')) few placed);
           buffers = same ∙ writing.buffers;
-          fault = put.failed;
+          first = record { front = writing.in_order.front; first = s; behind = slots_shown shown (map slot_of js ++ berths); order = writing.in_order.order; well = writing.in_order.well; number = put.grew.number; rose = put.rose };
         }
 
     -- some of them were written, and the next one failed

@@ -96,7 +96,7 @@ module _ {S R : Type 0} (cmp : R → R → Ordering) (bytes_of : R → List ℕ)
   with_runs :
       (slots0 : List (DeviceBlock S R)) (runs0 : List (Run R)) (slots : List (DeviceBlock S R)) (runs runs' : List (Run R)) (array : External S R) (failed : DeviceBlock S R)
       → WriteFailed shown (block * width) slots0 runs0 slots runs array failed → map buffers_of runs' ≡ map buffers_of runs → WriteFailed shown (block * width) slots0 runs0 slots runs' array failed
-  with_runs slots0 runs0 slots runs runs' array failed is same = record { sizes = is.sizes; shape = is.shape; went = is.went; buffers = same ∙ is.buffers; fault = is.fault }
+  with_runs slots0 runs0 slots runs runs' array failed is same = record { sizes = is.sizes; shape = is.shape; went = is.went; buffers = same ∙ is.buffers; first = is.first }
 
   module _ (group : ℕ) (sorted : List R) (runs0 : List (Run R)) (idle0 : List (Block R)) (slots0 : List (DeviceBlock S R)) where
     abbrev Goes : PassBody S R → NewArray S R → ℕ → List (Block R) → Type 0

@@ -1,13 +1,13 @@
 -- Slots and buffers that are taken from a supply and given back, one more.
-use Rattle.std.proofs.Common.{◌≡◌, ℕ, suc, ◌+◌, ◌-◌, ◌*◌, ◌≤◌, List, [], ◌∷◌, ◌++◌, length, sum_by, refl, sym, ap, ap₂, ◌∙◌, arith, append_assoc, length-append}
+use Rattle.std.proofs.Common.{◌≡◌, ℕ, suc, ◌+◌, ◌-◌, ◌*◌, ◌≤◌, List, [], ◌∷◌, ◌++◌, length, sum_by, refl, sym, ap, ap₂, ◌∙◌, arith, append_assoc, append-nil, subst, length-append}
 use Rattle.std.proofs.lemmas.List.{map-append}
 use Rattle.std.proofs.lemmas.List.Sums.{sum_by-cons, sum_by-append}
-use Rattle.std.proofs.lemmas.List.Elements.{All-push}
+use Rattle.std.proofs.lemmas.List.Elements.{All-nil, All-push}
 use Rattle.ppq_fetch.specs.ppq_outside.Shown.{Shown}
 use Rattle.ppq_fetch.specs.ppq_array.declared.berth.DeviceBlock.{DeviceBlock}
 use Rattle.ppq_fetch.specs.ppq_array.Supply.{Stock, DrawsFrom, DrawsSlot, GetsSlot, GetsBuffer}
 use Rattle.ppq_fetch.specs.ppq_array.Owner.{slots_shown, HasSize}
-use Rattle.ppq_spill.specs.Moves.{with_buffers, DrewSlots}
+use Rattle.ppq_spill.specs.Moves.{with_buffers, DrewInOrder, DrewSlots}
 
 -- a buffer comes back
 pub gives_back :
@@ -69,8 +69,38 @@ draws_from (first ∷ rest) now slot next e draws =
 pub draws_one : (now : Stock) (slot : Shown) (next : Stock) → DrawsSlot now slot next → DrawsOne now slot next
 draws_one now slot next draws = draws_from now.kept now slot next refl draws
 
--- one slot more is drawn
+-- the next slot in order
+draws_next :
+    (ks : List Shown) (old now : Stock) (slots : List Shown) (slot : Shown) (next : Stock) → now.kept ≡ ks → DrewInOrder old now slots → DrawsFrom ks now slot next → DrewInOrder old next (slots ++ slot ∷ [])
+draws_next [] old now slots slot next e is draws =
+    let kept : next.kept ≡ [] = ap (λ s. s.kept) draws ∙ e in
+    record {
+      fresh = is.fresh ++ slot ∷ [];
+      drawn = ap (λ s. s.drawn) draws ∙ ap (λ d. d ++ slot ∷ []) is.drawn ∙ append_assoc old.drawn is.fresh (slot ∷ []);
+      order = sym (append_assoc old.kept is.fresh (slot ∷ [])) ∙ ap (λ xs. xs ++ slot ∷ []) (is.order ∙ ap (λ k. slots ++ k) e ∙ append-nil slots) ∙ sym (ap (λ k. (slots ++ slot ∷ []) ++ k) kept ∙ append-nil (slots ++ slot ∷ []));
+    }
+draws_next (first ∷ rest) old now slots slot next e is draws =
+    let kept : next.kept ≡ rest = ap (λ s. s.kept) draws.1 in
+    record {
+      fresh = is.fresh;
+      drawn = ap (λ s. s.drawn) draws.1 ∙ is.drawn;
+      order = is.order ∙ ap (λ k. slots ++ k) (e ∙ ap (λ x. x ∷ rest) (sym draws.0)) ∙ sym (append_assoc slots (slot ∷ []) rest) ∙ ap (λ k. (slots ++ slot ∷ []) ++ k) (sym kept);
+    }
+
 module _ {S R : Type 0} (shown : S → Shown) (width : ℕ) where
+  -- no slot is drawn
+  pub draws_none : (s : Stock) → DrewSlots {S = S} {R = R} shown width s s []
+  draws_none s =
+      record {
+        in_order = record { fresh = []; drawn = sym (append-nil s.drawn); order = append-nil s.kept };
+        moved = λ f. refl;
+        sizes = All-nil (HasSize {S = S} {R = R} shown (s.block * width));
+        stock = (let e : s.slot_room ≡ s.slot_room + 0 = omega arith in ap (λ r. record s { slot_room = r }) e);
+        sure = omega arith;
+        left = omega arith;
+      }
+
+  -- one slot more is drawn
   pub draws_more :
       (old now next : Stock) (berths : List (DeviceBlock S R)) (b : DeviceBlock S R) → DrewSlots shown width old now berths → DrawsSlot now (shown b.slot) next → (shown b.slot).size ≡ now.block * width
       → DrewSlots shown width old next (berths ++ b ∷ [])
@@ -80,6 +110,7 @@ module _ {S R : Type 0} (shown : S → Shown) (width : ℕ) where
       let block : now.block ≡ old.block = ap (λ s. s.block) drew.stock in
       let room : now.slot_room + 1 ≡ old.slot_room + length (berths ++ b ∷ []) = omega (arith, ap (λ s. s.slot_room) drew.stock, length-append berths (b ∷ [])) in
       record {
+        in_order = subst (DrewInOrder old next) (sym names) (draws_next now.kept old now (slots_shown shown berths) (shown b.slot) next refl drew.in_order draws);
         moved = λ f. omega (
           arith,
           drew.moved f,

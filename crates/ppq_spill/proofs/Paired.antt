@@ -6,7 +6,7 @@ use Rattle.std.proofs.Math.Seq.{take-add, take-append_seam, drop-append_seam}
 use Rattle.std.proofs.lemmas.List.{length-drop, length-take, drop-drop, append_assoc}
 use Rattle.std.proofs.lemmas.List.Sums.{sum_by-cons, sum_by-append}
 use Rattle.std.proofs.lemmas.List.Sorted.{All-permutation, IsPermutation-trans, IsPermutation-append_comm, IsPermutation-append_right, sum_by-IsPermutation, length_permutation}
-use Rattle.std.proofs.lemmas.List.Elements.{All-nil, All-append, All-push}
+use Rattle.std.proofs.lemmas.List.Elements.{All-append, All-push}
 use Rattle.ppq_fetch.specs.ppq_record.Order.{Ascends}
 use Rattle.ppq_fetch.specs.ppq_block.Block.{Block}
 use Rattle.ppq_fetch.specs.ppq_outside.Shown.{Shown, AllTell}
@@ -15,11 +15,10 @@ use Rattle.ppq_fetch.specs.ppq_array.declared.berth.DeviceBlock.{DeviceBlock}
 use Rattle.ppq_fetch.specs.ppq_array.Run.{run_of, buffers_of}
 use Rattle.ppq_fetch.specs.ppq_array.External.{External, external, records_in}
 use Rattle.ppq_fetch.specs.ppq_array.Supply.{Stock}
-use Rattle.ppq_fetch.specs.ppq_array.Owner.{slots_shown, HasBlock, HasSize, new_owner}
+use Rattle.ppq_fetch.specs.ppq_array.Owner.{slots_shown, HasBlock, new_owner}
 use Rattle.ppq_fetch.specs.ppq_array.Holdings.{external_slots, external_buffers}
 use Rattle.ppq_fetch.proofs.ppq_array.Noted.{all_left, all_right}
 use Rattle.ppq_spill.specs.Leveling.{HasLevel, EightOf, MayLevel, ArraysAscend}
-use Rattle.ppq_spill.specs.Moves.{DrewSlots}
 use Rattle.ppq_spill.specs.Making.{Table, table, table_slots, held_slots, last_eight, all_but_eight, MergedOn, HasNothing, freed, LastMerged}
 use Rattle.ppq_spill.specs.Pairing.{MayPair, LevelStep, PairMerged, last_part, part_before, all_but_sixteen, with_rest}
 use Rattle.ppq_spill.proofs.Keeping.{sum_ones, slots_long}
@@ -27,6 +26,7 @@ use Rattle.ppq_spill.proofs.Fetches.{slots_counted}
 use Rattle.ppq_spill.proofs.Merges.{table_sum}
 use Rattle.ppq_spill.proofs.Leveled.{emptied_none}
 use Rattle.ppq_spill.proofs.Starts.{eight_last, eight_sum, others_all}
+use Rattle.ppq_spill.proofs.Moving.{draws_none}
 use Rattle.ppq_spill.proofs.Among.{ready_framed, on_framed}
 use Rattle.ppq_spill.proofs.Ends.{level_ends}
 
@@ -39,17 +39,6 @@ module _ {S R : Type 0} where
   new_array level = external (min (level + 1) 7) (run_of [] 0 []) [] []
 
 module _ {S R : Type 0} (shown : S → Shown) (width : ℕ) where
-  -- no slot was drawn
-  pub draws_none : (s : Stock) → DrewSlots {S = S} {R = R} shown width s s []
-  draws_none s =
-      record {
-        moved = λ f. refl;
-        sizes = All-nil (HasSize {S = S} {R = R} shown (s.block * width));
-        stock = (let e : s.slot_room ≡ s.slot_room + 0 = omega arith in ap (λ r. record s { slot_room = r }) e);
-        sure = omega arith;
-        left = omega arith;
-      }
-
   module _ (workers level : ℕ) (at_most : level ≤ 7) (cmp : R → R → Ordering) (record_of : List ℕ → R) where
     -- the 8 arrays at the end were merged, of which nothing was loaded
     pub step_of :
@@ -62,7 +51,7 @@ module _ {S R : Type 0} (shown : S → Shown) (width : ℕ) where
         let long : length {A = DeviceBlock S R} [] ≡ external_buffers (last_eight g) = omega (arith, none, eight_sum level old (last_eight g) (all_but_eight g) of (λ (a : External S R). length (buffers_of a.loaded))) in
         let last : LastMerged cmp record_of width workers shown (all_but_eight g) (table (last_eight g) lanes.idle (new_array level) [] stock) new lanes'.idle now =
         record { end = t; merged = on; emptied = emptied; arrays_are = new_is; idle_is = idle; stock_is = now_is } in
-        let e = level_ends shown width workers level old g lanes stock at_most moved enough levels may stock [] (draws_none stock) long (new_array level) refl cmp record_of new lanes' now jobs batch ascend last in
+        let e = level_ends shown width workers level old g lanes stock at_most moved enough levels may stock [] (draws_none shown width stock) long (new_array level) refl cmp record_of new lanes' now jobs batch ascend last in
         let ones : Shown → ℕ = λ _. 1 in
         let o = table (last_eight g) lanes.idle (new_array level) [] stock in
         record {

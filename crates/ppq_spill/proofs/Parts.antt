@@ -128,7 +128,7 @@ module _ {S R : Type 0} (shown : S → Shown) where
           sizes = λ a. All-append P made'.stored berths' (subst (All P) (sym stored) (All-push P made.stored last (all_left P made.stored berths a) (put.grew.size ∙ size))) sizes;
           written = All-cons (λ (b : DeviceBlock S R). 1 ≤ (shown b.slot).writes) last [] put.written (All-nil (λ (b : DeviceBlock S R). 1 ≤ (shown b.slot).writes));
         };
-        quiet = quiet_placed others (shown b.slot ∷ []) (shown last.slot ∷ []) (hand_slots shown o) (hand_slots shown n) before now (quiet_more (shown b.slot ∷ []) [] [] (shown b.slot) (shown last.slot) refl put.quiet);
+        quiet = quiet_placed others (shown b.slot ∷ []) (shown last.slot ∷ []) (hand_slots shown o) (hand_slots shown n) before now (quiet_more (shown b.slot ∷ []) [] [] (shown b.slot) (shown last.slot) refl put.well.quiet);
         each = each_placed 1 others (shown b.slot ∷ []) (shown last.slot ∷ []) (hand_slots shown o) (hand_slots shown n) before now put.each;
         size = one;
         packed = record {
@@ -179,5 +179,5 @@ module _ {S R : Type 0} (shown : S → Shown) where
           written = All-nil (λ (b : DeviceBlock S R). 1 ≤ (shown b.slot).writes);
         };
         few = omega arith;
-        failed = subst (HasFailed number) (sym kept) (failed_there s'.kept (shown failed.slot) number (sym is) put.failed);
+        failed = subst (HasFailed number) (sym kept) (failed_there s'.kept (shown failed.slot) number (sym is) (omega (arith, put.rose)));
       }

@@ -25,7 +25,8 @@ use Rattle.ppq_spill.specs.Pairing.{MayPair, PairEnds, last_part, part_before, a
 use Rattle.ppq_spill.proofs.Fetches.{slots_counted}
 use Rattle.ppq_spill.proofs.Keeping.{slots_long}
 use Rattle.ppq_spill.proofs.Ends.{may_merge}
-use Rattle.ppq_spill.proofs.Paired.{new_array, draws_none, pair_merged}
+use Rattle.ppq_spill.proofs.Paired.{new_array, pair_merged}
+use Rattle.ppq_spill.proofs.Moving.{draws_none}
 use Rattle.ppq_spill.proofs.Stopped.{pair_stopped, failed_a, failed_b}
 
 module _ {S R : Type 0} (shown : S → Shown) (width workers level : ℕ) (at_most : level ≤ 7) (old g : List (External S R)) (lanes : Lanes (DeviceBlock S R) R) (stock : Stock) (lent rest : List (Block R))

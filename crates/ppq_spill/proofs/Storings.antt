@@ -1,5 +1,5 @@
 -- What storing in blocks keeps, and what it makes.
-use Rattle.std.proofs.Common.{◌≡◌, ℕ, ◌+◌, ◌-◌, ◌*◌, ◌≤◌, List, [], ◌∷◌, ◌++◌, length, sum_by, All, refl, sym, ap, ap₂, ◌∙◌, subst, arith, length-append, append-nil}
+use Rattle.std.proofs.Common.{◌≡◌, ℕ, ◌+◌, ◌-◌, ◌*◌, ◌≤◌, List, [], ◌∷◌, ◌++◌, length, sum_by, All, refl, sym, ap, ap₂, ◌∙◌, subst, arith, length-append, append-nil, append_assoc}
 use Rattle.std.proofs.lemmas.List.Sums.{sum_by-cons, sum_by-append}
 use Rattle.ppq_fetch.specs.ppq_outside.Shown.{Shown}
 use Rattle.ppq_fetch.specs.ppq_array.declared.berth.DeviceBlock.{DeviceBlock}
@@ -8,9 +8,12 @@ use Rattle.ppq_fetch.specs.ppq_array.Supply.{Stock, GetsSlot}
 use Rattle.ppq_fetch.specs.ppq_array.Owner.{slots_shown, HasBlock}
 use Rattle.ppq_fetch.specs.ppq_array.Holdings.{RunHasBlock, ArrayHasSize}
 use Rattle.ppq_spill.specs.declared.body.PassBody.{PassBody}
-use Rattle.ppq_spill.specs.Storing.{HasOneSize}
-use Rattle.ppq_fetch.specs.ppq_array.Kept.{Held, Kept, SameSums}
-use Rattle.ppq_spill.specs.Moves.{DrewSlots, FoundFewSlots, with_buffers}
+use Rattle.ppq_spill.specs.Storing.{HasOneSize, RunStopped}
+use Rattle.ppq_fetch.specs.ppq_array.Kept.{Held, Kept, SameSums, weight_at}
+use Rattle.ppq_spill.specs.Moves.{DrewSlots, FoundFewSlots, FoundScant, with_buffers}
+use Rattle.ppq_spill.specs.Body.{body_slots}
+use Rattle.ppq_spill.specs.Writing.{FirstFailed}
+use Rattle.ppq_spill.proofs.Parts.{failed_there}
 use Rattle.ppq_spill.proofs.Keeping.{slots_long}
 use Rattle.ppq_spill.specs.Went.{WentWriting}
 use Rattle.ppq_spill.proofs.Going.{WentWriting-refl, went_kept}
@@ -125,3 +128,45 @@ module _ {S R : Type 0} (shown : S → Shown) (width : ℕ) where
         internal = subst (λ b. All (RunHasBlock b) new.runs.internal.items) (sym same) internal;
         external = subst (λ b. All (ArrayHasSize shown (b * width)) new.runs.external.items) (sym same) external;
       }
+
+-- a slot was drawn and written, and came back, since that write failed; those behind it came back after it
+pub run_stopped :
+    {S R : Type 0} (shown : S → Shown) (width : ℕ) (o d f r : Stock) (old new : PassBody S R) (slots0 berths : List (DeviceBlock S R)) (array : External S R) (failed : DeviceBlock S R) (number room : ℕ) → DrewSlots shown width o d slots0 → GetsSlot d (shown failed.slot) f
+    → r ≡ record f { kept = f.kept ++ slots_shown shown berths; slot_room = room } → FirstFailed (slots_shown shown slots0) (slots_shown shown array.stored) (shown failed.slot) → new.runs.external.items ≡ old.runs.external.items ++ array ∷ [] → number ≡ (shown failed.slot).number
+    → RunStopped shown number old new o r
+run_stopped shown width o d f r old new slots0 berths array failed number room drew gets back first more is =
+    let told = shown failed.slot in
+    let behind = slots_shown shown berths in
+    let kept : r.kept ≡ d.kept ++ told ∷ behind = ap (λ s. s.kept) back ∙ ap (λ s. s.kept ++ behind) gets ∙ append_assoc d.kept (told ∷ []) behind in
+    let order = drew.in_order in
+    let weight = weight_at (λ s. s.faults) number in
+    record {
+      failed = (
+          let here = failed_there d.kept told number (sym is) (omega (arith, first.rose)) in
+          omega (arith, here, sum_by-append weight (body_slots shown new) r.kept, ap (sum_by weight) kept, sum_by-append weight d.kept (told ∷ []), sum_by-append weight d.kept (told ∷ behind), sum_by-cons weight told behind, sum_by-cons weight told [])
+          );
+      fresh = order.fresh;
+      drawn = ap (λ s. s.drawn) back ∙ ap (λ s. s.drawn) gets ∙ order.drawn;
+      array = array;
+      external = more;
+      told = told;
+      number_is = sym is;
+      others = d.kept;
+      later = behind;
+      kept = kept;
+      first = record {
+        front = first.front;
+        first = first.first;
+        behind = first.behind ++ d.kept;
+        order = order.order ∙ ap (λ xs. xs ++ d.kept) first.order ∙ append_assoc first.front (first.first ∷ first.behind) d.kept;
+        well = first.well;
+        number = first.number;
+        rose = first.rose;
+      };
+    }
+
+-- the same, after too few buffers were had
+pub stopped_after : {S R : Type 0} (shown : S → Shown) (number n : ℕ) (old new : PassBody S R) (o m r : Stock) → FoundScant n o m → RunStopped shown number old new m r → RunStopped shown number old new o r
+stopped_after shown number n old new o m r found is =
+    let at = subst (λ s. RunStopped shown number old new s r) found.stock is in
+    record { failed = at.failed; fresh = at.fresh; drawn = at.drawn; array = at.array; external = at.external; told = at.told; number_is = at.number_is; others = at.others; later = at.later; kept = at.kept; first = at.first }

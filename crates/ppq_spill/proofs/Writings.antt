@@ -8,7 +8,7 @@ use Rattle.std.proofs.lemmas.List.Elements.{All-cons, All-head, All-tail, All-pu
 use Rattle.std.proofs.Math.Nat.{suc-mul}
 use Rattle.std.specs.Cmp.{IsStrictWeakOrder}
 use Rattle.std.specs.declared.cmp.Ordering.{Ordering}
-use Rattle.std.specs.List.{AllByRecursion as Each}
+use Rattle.std.specs.List.{AllZip, AllByRecursion as Each}
 use Rattle.std.specs.Prelude.{count_by}
 use Rattle.ppq_fetch.specs.ppq_record.Order.{is_before, Ascends, Le}
 use Rattle.ppq_fetch.specs.ppq_record.Bag.{IsSameBag}
@@ -21,10 +21,24 @@ use Rattle.ppq_fetch.specs.ppq_array.Owner.{slots_shown, HasSize}
 use Rattle.ppq_fetch.specs.ppq_array.Kept.{AreQuiet, MoreWrites}
 use Rattle.ppq_fetch.proofs.ppq_array.Noted.{all_left, all_right, take_whole}
 use Rattle.ppq_fetch.specs.Taking.{NoneAfter}
-use Rattle.ppq_spill.specs.Writing.{Grew, MergedOut, BlockStored, BlockFailed, WriteFailed, Writing, left_in}
+use Rattle.ppq_spill.specs.Writing.{Grew, WroteWell, WroteFront, MergedOut, BlockStored, BlockFailed, WriteFailed, Writing, left_in}
 use Rattle.ppq_spill.specs.Went.{WentWriting, AtLeast}
 use Rattle.ppq_spill.proofs.Going.{WentWriting-refl, WentWriting-more, WentWriting-weaker, quiet_more, each-none, each_more}
 use Rattle.ppq_spill.proofs.Keeping.{slots_long}
+
+zip_push : {X Y : Type 0} (P : X → Y → Type 0) (xs : List X) (ys : List Y) (x : X) (y : Y) → AllZip P xs ys → P x y → AllZip P (xs ++ x ∷ []) (ys ++ y ∷ [])
+zip_push P [] [] x y zip one = (one, tt)
+zip_push P [] (b ∷ ys) x y zip one = absurd zip
+zip_push P (a ∷ xs) [] x y zip one = absurd zip
+zip_push P (a ∷ xs) (b ∷ ys) x y zip one = (zip.0, zip_push P xs ys x y zip.1 one)
+
+-- one more slot was written, the next one
+pub front_more : (slots now : List Shown) (before last : Shown) (left : List Shown) → WroteFront slots now (before ∷ left) → WroteWell before last → WroteFront slots (now ++ last ∷ []) left
+front_more slots now before last left is one = record {
+  front = is.front ++ before ∷ [];
+  order = is.order ∙ sym (append_assoc is.front (before ∷ []) left);
+  well = zip_push WroteWell is.front now before last is.well one;
+}
 
 module _ {S R : Type 0} (cmp : R → R → Ordering) (record_of : List ℕ → R) (width block : ℕ) (shown : S → Shown) where
   abbrev now_records : External S R → List R
@@ -50,6 +64,7 @@ module _ {S R : Type 0} (cmp : R → R → Ordering) (record_of : List ℕ → R
         least = λ some. least;
         buffers = refl;
         written = subst (λ bs. All (λ (b : DeviceBlock S R). 1 ≤ (shown b.slot).writes) bs) (sym none) (λ k d h. absurd (omega arith));
+        in_order = record { front = []; order = refl; well = subst (λ (bs : List (DeviceBlock S R)). AllZip WroteWell [] (slots_shown shown bs)) (sym none) tt };
         went = subst (λ bs. WentWriting (length bs) (slots_shown shown slots) (slots_shown shown bs ++ slots_shown shown slots)) (sym none) (WentWriting-refl (slots_shown shown slots));
         quiet = subst (λ bs. AreQuiet (slots_shown shown slots) (slots_shown shown bs ++ slots_shown shown slots)) (sym none) refl;
         each = subst (λ bs. AtLeast (length bs) (slots_shown shown slots) (slots_shown shown bs ++ slots_shown shown slots)) (sym none) (each-none (slots_shown shown slots));
@@ -87,8 +102,11 @@ module _ {S R : Type 0} (cmp : R → R → Ordering) (record_of : List ℕ → R
         least = λ h. omega (arith, is.least (omega arith), more, sum, merged.count, at_least block (length slots) h);
         buffers = merged.buffers ∙ is.buffers;
         written = subst (λ bs. All (λ (b : DeviceBlock S R). 1 ≤ (shown b.slot).writes) bs) (sym blocks) (All-push (λ (b : DeviceBlock S R). 1 ≤ (shown b.slot).writes) stored last is.written put.written);
+        in_order = subst (λ (xs : List Shown). WroteFront (slots_shown shown slots0) xs (slots_shown shown slots))
+            (sym (ap (slots_shown shown) blocks ∙ map-append (λ (b : DeviceBlock S R). shown b.slot) stored (last ∷ [])))
+            (front_more (slots_shown shown slots0) (slots_shown shown stored) (shown b.slot) (shown last.slot) (slots_shown shown slots) is.in_order put.well);
         went = went_more slots0 stored b last slots put.grew put.transfers is.went blocks;
-        quiet = subst (AreQuiet (slots_shown shown slots0)) (shown_more stored last slots blocks) (quiet_more (slots_shown shown slots0) (slots_shown shown stored) (slots_shown shown slots) (shown b.slot) (shown last.slot) is.quiet put.quiet);
+        quiet = subst (AreQuiet (slots_shown shown slots0)) (shown_more stored last slots blocks) (quiet_more (slots_shown shown slots0) (slots_shown shown stored) (slots_shown shown slots) (shown b.slot) (shown last.slot) is.quiet put.well.quiet);
         each = least_more slots0 stored b last slots put.each is.each blocks;
         full = λ h. subst (All IsFull) (sym blocks) (All-push IsFull stored last (is.full (omega arith)) (omega (arith, is.least (omega arith), more, sum, merged.count, at_least block (length slots) h, put.count)));
         packed = subst (IsPacked block) (sym blocks) (record {
@@ -188,5 +206,13 @@ module _ {S R : Type 0} (cmp : R → R → Ordering) (record_of : List ℕ → R
         sizes = subst (λ bs. All P (bs ++ failed ∷ slots)) blocks sizes;
         shape = put.run ∙ is.shape ∙ ap (λ bs. external 0 (run_of [] 0 []) [] bs) blocks;
         buffers = same ∙ is.buffers;
-        fault = put.failed;
+        first = record {
+          front = is.in_order.front;
+          first = shown b.slot;
+          behind = ys;
+          order = is.in_order.order;
+          well = subst (λ (bs : List (DeviceBlock S R)). AllZip WroteWell is.in_order.front (slots_shown shown bs)) blocks is.in_order.well;
+          number = put.grew.number;
+          rose = put.rose;
+        };
       }

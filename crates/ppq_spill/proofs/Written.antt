@@ -10,7 +10,7 @@ use Rattle.ppq_fetch.specs.ppq_lane.Jobs.{IsWrittenFrom}
 use Rattle.ppq_fetch.specs.ppq_array.declared.berth.DeviceBlock.{DeviceBlock}
 use Rattle.ppq_fetch.specs.ppq_array.External.{External, external}
 use Rattle.ppq_fetch.specs.ppq_array.Kept.{MoreWrites}
-use Rattle.ppq_spill.specs.Writing.{Grew, BlockStored, BlockFailed}
+use Rattle.ppq_spill.specs.Writing.{Grew, WroteWell, BlockStored, BlockFailed}
 use Rattle.ppq_spill.specs.Went.{AtLeast}
 use Rattle.ppq_spill.proofs.Transfers.{one_slot, one_least}
 
@@ -51,7 +51,11 @@ module _ {S R : Type 0} (bytes_of : R → List ℕ) (record_of : List ℕ → R)
         run = run;
         count = count;
         grew = grew;
-        quiet = subst (λ s. (shown s).faults ≡ (shown slot).faults) (sym at) (IfOk-at_ok (λ _. (shown slot').faults ≡ (shown slot).faults) e w.wrote.cause.ok);
+        well = subst (λ s. WroteWell (shown slot) (shown s)) (sym at) (record {
+          number = w.wrote.number;
+          writes = omega (arith, once);
+          quiet = IfOk-at_ok (λ _. (shown slot').faults ≡ (shown slot).faults) e w.wrote.cause.ok;
+        });
         written = subst (λ s. 1 ≤ (shown s).writes) (sym at) (omega (arith, once));
         transfers = subst (λ s. MoreWrites 1 (shown slot ∷ []) (shown s ∷ [])) (sym at) (one_slot 1 (shown slot) (shown slot') (omega (arith, once)) (omega (arith, w.wrote.reads)));
         each = subst (λ s. AtLeast 1 (shown slot ∷ []) (shown s ∷ [])) (sym at) (one_least (shown slot) (shown slot') once);
@@ -68,5 +72,5 @@ module _ {S R : Type 0} (bytes_of : R → List ℕ) (record_of : List ℕ → R)
         run = refl;
         grew = grew_written answer (shown slot) (shown berth.slot) buf buf' w;
         transfers = one_slot 0 (shown slot) (shown berth.slot) (omega (arith, same)) (omega (arith, w.wrote.reads));
-        failed = omega (arith, rose);
+        rose = rose;
       }

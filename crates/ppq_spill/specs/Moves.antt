@@ -60,9 +60,16 @@ pub record FoundScant (n : ℕ) (old new : Stock) : Type 0 where
   pub short : IsShortOfBuffers n old new
   pub stock : new ≡ record old { sure_buffers = new.sure_buffers; scant = new.scant; room_when_scant = new.room_when_scant }
 
+-- Slots were drawn in this order: those that the supply kept, from the first on, and then those that it drew from a row
+pub record DrewInOrder (old new : Stock) (slots : List Shown) : Type 0 where
+  pub fresh : List Shown
+  pub drawn : new.drawn ≡ old.drawn ++ fresh
+  pub order : old.kept ++ fresh ≡ slots ++ new.kept
+
 module _ {S R : Type 0} where
   -- these slots were drawn
   pub record DrewSlots (shown : S → Shown) (width : ℕ) (old new : Stock) (berths : List (DeviceBlock S R)) : Type 0 where
+    pub in_order : DrewInOrder old new (slots_shown shown berths)
     pub moved : SameSums (old.kept ++ new.drawn) (slots_shown shown berths ++ new.kept ++ old.drawn)
     pub sizes : All (HasSize shown (old.block * width)) berths
     pub stock : new ≡ record old { kept = new.kept; drawn = new.drawn; slot_room = old.slot_room + length berths }

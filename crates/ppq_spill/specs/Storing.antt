@@ -8,7 +8,7 @@ use Rattle.ppq_fetch.specs.ppq_outside.Told.{Rose}
 use Rattle.ppq_fetch.specs.ppq_lane.declared.lanes.Lanes.{Lanes}
 use Rattle.ppq_fetch.specs.ppq_array.declared.berth.DeviceBlock.{DeviceBlock}
 use Rattle.ppq_fetch.specs.ppq_array.Supply.{Stock, sure_slots}
-use Rattle.ppq_fetch.specs.ppq_array.Owner.{HasBlock}
+use Rattle.ppq_fetch.specs.ppq_array.Owner.{slots_shown, HasBlock}
 use Rattle.ppq_fetch.specs.ppq_array.Run.{Run, run_of, items_of, buffers_of}
 use Rattle.ppq_fetch.specs.ppq_array.External.{External, size_of, records_in, IsPacked}
 use Rattle.ppq_fetch.specs.ppq_array.declared.store_fault.StoreFault.{StoreFault}
@@ -19,6 +19,7 @@ use Rattle.ppq_fetch.specs.Fetching.{IsFitting}
 use Rattle.ppq_spill.specs.Body.{body_slots, held_by}
 use Rattle.ppq_spill.specs.Untold.{SameUntold}
 use Rattle.ppq_spill.specs.Went.{AtLeast}
+use Rattle.ppq_spill.specs.Writing.{FirstFailed}
 use Rattle.ppq_spill.specs.declared.body.PassBody.{PassBody}
 
 -- so many blocks have no room for so many records
@@ -172,10 +173,25 @@ module _ {S R : Type 0} where
   abbrev pub DeviceFailed : (S → Shown) → ℕ → PassBody S R → Stock → Type 0
   DeviceFailed shown number body stock = HasFailed number (body_slots shown body ++ stock.kept)
 
+  -- A write of the slot with this number failed, which the supply keeps. Of the slots in the order in which the supply gives them, those in
+  -- front of it hold the blocks of one run more, and no call of them failed since; of this one a call did
+  pub record RunStopped (shown : S → Shown) (number : ℕ) (old new : PassBody S R) (before now : Stock) : Type 0 where
+    pub failed : DeviceFailed shown number new now
+    pub fresh : List Shown
+    pub drawn : now.drawn ≡ before.drawn ++ fresh
+    pub array : External S R
+    pub external : new.runs.external.items ≡ old.runs.external.items ++ array ∷ []
+    pub told : Shown
+    pub number_is : told.number ≡ number
+    pub others : List Shown
+    pub later : List Shown
+    pub kept : now.kept ≡ others ++ told ∷ later
+    pub first : FirstFailed (before.kept ++ fresh) (slots_shown shown array.stored) told
+
   -- the same, and the call was short of buffers: else it calls no slot
-  pub record StoreFailed (shown : S → Shown) (number n : ℕ) (body : PassBody S R) (before now : Stock) : Type 0 where
+  pub record StoreFailed (shown : S → Shown) (number n : ℕ) (old new : PassBody S R) (before now : Stock) : Type 0 where
     pub short : IsShortOfBuffers n before now
-    pub failed : DeviceFailed shown number body now
+    pub stopped : RunStopped shown number old new before now
 
   -- what storing runs in blocks leaves, whatever the answer
   pub record StoreLeaves (shown : S → Shown) (width n : ℕ) (old new : PassBody S R) (before now : Stock) : Type 0 where
@@ -192,4 +208,4 @@ module _ {S R : Type 0} where
   abbrev pub StoreEnds : {T : Type 0} → (R → R → Ordering) → (List ℕ → R) → ℕ → (S → Shown) → List R → PassBody S R → PassBody S R → Stock → Stock → Result T StoreFault → Type 0
   StoreEnds cmp record_of width shown sorted old new before now (Ok _) = BlocksStored cmp record_of width shown sorted old new before now
   StoreEnds cmp record_of width shown sorted old new before now (Err NoFreeBlock) = NoSlots (length sorted) old new before now
-  StoreEnds cmp record_of width shown sorted old new before now (Err (Device number)) = DeviceFailed shown number new now
+  StoreEnds cmp record_of width shown sorted old new before now (Err (Device number)) = RunStopped shown number old new before now

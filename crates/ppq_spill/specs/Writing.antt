@@ -1,10 +1,12 @@
 -- Runs that are merged into blocks and written, one after the other.
 use Rattle.std.specs.Prelude.{◌≡◌, ℕ, ◌+◌, ◌*◌, ◌<◌, ◌≤◌, ◌-◌, ◌^◌, List, [], ◌∷◌, ◌++◌, length, min, map, All, Option, Some, None, vec_capacity}
 use Rattle.std.specs.declared.cmp.Ordering.{Ordering}
+use Rattle.std.specs.List.{AllZip}
 use Rattle.ppq_fetch.specs.ppq_record.Order.{Ascends}
 use Rattle.ppq_fetch.specs.ppq_record.Bag.{IsSameBag}
 use Rattle.ppq_fetch.specs.ppq_block.Block.{Block, IsSettled}
 use Rattle.ppq_fetch.specs.ppq_outside.Shown.{Shown, Tells, AllTell}
+use Rattle.ppq_fetch.specs.ppq_outside.Told.{Rose}
 use Rattle.ppq_fetch.specs.ppq_array.declared.berth.DeviceBlock.{DeviceBlock}
 use Rattle.ppq_fetch.specs.ppq_array.Run.{Run, run_of, items_of, buffers_of}
 use Rattle.ppq_fetch.specs.ppq_array.External.{External, external, size_of, records_in, block_items, IsPacked}
@@ -25,6 +27,29 @@ pub record Grew (before now : Shown) : Type 0 where
   pub reads : before.reads ≤ now.reads
   pub tells : Tells before → Tells now
   pub told : Tells now → Tells before
+
+-- the slot was written since, and no call of it failed
+pub record WroteWell (before now : Shown) : Type 0 where
+  pub number : now.number ≡ before.number
+  pub writes : Rose before.writes now.writes
+  pub quiet : now.faults ≡ before.faults
+
+-- Of slots in their order, those in front were written, and no call of them failed: this is what they are now. These are left
+pub record WroteFront (slots now left : List Shown) : Type 0 where
+  pub front : List Shown
+  pub order : slots ≡ front ++ left
+  pub well : AllZip WroteWell front now
+
+-- Of slots in their order, those in front of one were written, and no call of them failed: this is what they are now. A call of that one
+-- failed, and so it is now
+pub record FirstFailed (slots now : List Shown) (failed : Shown) : Type 0 where
+  pub front : List Shown
+  pub first : Shown
+  pub behind : List Shown
+  pub order : slots ≡ front ++ first ∷ behind
+  pub well : AllZip WroteWell front now
+  pub number : failed.number ≡ first.number
+  pub rose : Rose first.faults failed.faults
 
 module _ {R : Type 0} where
   -- what is left to merge: the records of runs and those of a list
@@ -59,7 +84,7 @@ module _ {S R : Type 0} where
     pub run : new ≡ external old.level old.loaded [] (old.stored ++ last ∷ [])
     pub count : last.count ≡ length items
     pub grew : Grew (shown slot) (shown last.slot)
-    pub quiet : (shown last.slot).faults ≡ (shown slot).faults
+    pub well : WroteWell (shown slot) (shown last.slot)
     pub written : 1 ≤ (shown last.slot).writes
     pub transfers : MoreWrites 1 (shown slot ∷ []) (shown last.slot ∷ [])
     pub each : AtLeast 1 (shown slot ∷ []) (shown last.slot ∷ [])
@@ -70,7 +95,7 @@ module _ {S R : Type 0} where
     pub run : new ≡ old
     pub grew : Grew (shown slot) (shown berth.slot)
     pub transfers : MoreWrites 0 (shown slot ∷ []) (shown berth.slot ∷ [])
-    pub failed : 0 < (shown berth.slot).faults
+    pub rose : Rose (shown slot).faults (shown berth.slot).faults
 
   -- a buffer's records may become the last block of a run, in this slot
   pub record MayAppend (shown : S → Shown) (width : ℕ) (slot : S) (buf : Block R) (array : External S R) : Type 0 where
@@ -96,6 +121,7 @@ module _ {S R : Type 0} where
     pub least : 0 < length slots → length slots * block < length (left_in runs rest) + block
     pub buffers : map buffers_of runs ≡ map buffers_of runs0
     pub written : All (λ (b : DeviceBlock S R). 1 ≤ (shown b.slot).writes) array.stored
+    pub in_order : WroteFront (slots_shown shown slots0) (slots_shown shown array.stored) (slots_shown shown slots)
     pub went : WentWriting (length array.stored) (slots_shown shown slots0) (slots_shown shown array.stored ++ slots_shown shown slots)
     pub quiet : AreQuiet (slots_shown shown slots0) (slots_shown shown array.stored ++ slots_shown shown slots)
     pub each : AtLeast (length array.stored) (slots_shown shown slots0) (slots_shown shown array.stored ++ slots_shown shown slots)
@@ -105,14 +131,14 @@ module _ {S R : Type 0} where
     pub ascends : AllTell (slots_shown shown slots0) → AllAscend cmp runs0 rest0 → AllAscend cmp runs rest × Ascends cmp (records_in record_of width shown array) × NoneAfter cmp (records_in record_of width shown array) (left_in runs rest)
     pub records : AllTell (slots_shown shown slots0) → IsSameBag (left_in runs0 rest0) (records_in record_of width shown array ++ left_in runs rest)
 
-  -- A write failed: that slot, those that hold blocks now and those that are left are the slots from before, and a call of the first failed.
-  -- Each was written once at most, those that are left too
+  -- A write failed: that slot, those that hold blocks now and those that are left are the slots from before, and it is the first of which a
+  -- call failed. Each was written once at most, those that are left too
   pub record WriteFailed (shown : S → Shown) (bytes : ℕ) (slots0 : List (DeviceBlock S R)) (runs0 : List (Run R)) (slots : List (DeviceBlock S R)) (runs : List (Run R)) (array : External S R) (failed : DeviceBlock S R) : Type 0 where
     pub sizes : All (HasSize shown bytes) (array.stored ++ failed ∷ slots)
     pub shape : array ≡ external 0 (run_of [] 0 []) [] array.stored
     pub went : WentWriting (length slots0) (slots_shown shown slots0) (slots_shown shown array.stored ++ (shown failed.slot ∷ slots_shown shown slots))
     pub buffers : map buffers_of runs ≡ map buffers_of runs0
-    pub fault : 0 < (shown failed.slot).faults
+    pub first : FirstFailed (slots_shown shown slots0) (slots_shown shown array.stored) (shown failed.slot)
 
   -- the runs of a body and a list may be merged into as many blocks as there are slots, by its tree and with its idle buffers
   pub record MayWriteRuns (shown : S → Shown) (width block : ℕ) (body : PassBody S R) (rest : List R) (making : NewArray S R) : Type 0 where

@@ -4,7 +4,7 @@ ghost use Rattle.ppq_fetch.specs.ppq_array.Kept.{Kept};
 ghost use Rattle.ppq_fetch.specs.ppq_array.Holdings.{CanTakeBack, internal_items};
 ghost use Rattle.ppq_spill.specs.Body.{held_by};
 ghost use Rattle.ppq_spill.specs.Costing.{StorePays};
-ghost use Rattle.ppq_spill.specs.Storing.{in_buffers, MayStore, WritesFew, HasOneSize, RoomsRest, LanesRest, IsStored, BlocksStored, NoneFree, NoSlots, RunsAscend, DeviceFailed, StoreFailed, SameScant, StillTell, StillUntold, StoreLeaves, StoreEnds};
+ghost use Rattle.ppq_spill.specs.Storing.{in_buffers, MayStore, WritesFew, HasOneSize, RoomsRest, LanesRest, IsStored, BlocksStored, NoneFree, NoSlots, RunsAscend, RunStopped, StoreFailed, SameScant, StillTell, StillUntold, StoreLeaves, StoreEnds};
 
 use crate::PassBody;
 use crate::buffers::{blocks_for, store_in_buffers};
@@ -31,8 +31,9 @@ use ppq_fetch::{ExternalArray, Host, InternalArray, Record, Slot, StoreFault, Su
 /// and slots and the order of its buffers: slots that were drawn are kept by the supply.
 ///
 /// `Device` only if buffers were short and a write of the slot with that number failed; the supply keeps
-/// that slot. Where several of a group failed, it is the first of them in the order of the run. Records may
-/// be lost then, but no slot and no buffer.
+/// that slot. Where several of a group failed, it is the first of them in the order of the run, which uses
+/// slots in the order in which they are drawn: the blocks in front of it were written, and are one run
+/// more. Records may be lost then, but no slot and no buffer.
 ///
 /// What it writes is bounded by an account of the runs, which every later merge of levels is paid from.
 pub fn store_sorted<H: Host, S: Slot + Send, R: Record + Send, P: Supply<S, R>>(
@@ -53,7 +54,7 @@ where
     ensures home { P.home supply.new ≡ P.home supply.old }
     ensures stored { OnOk result (IsStored R.Ord.cmp R.record_of R.WIDTH S.shown sorted.now body.old body.new (P.stock supply.old) (P.stock supply.new)) }
     ensures none_free { IsErrOf result StoreFault.NoFreeBlock → NoneFree (length sorted.now) body.old body.new (P.stock supply.old) (P.stock supply.new) }
-    ensures device { (number : ℕ) → IsErrOf result (StoreFault.Device number) → StoreFailed S.shown number (length sorted.now) body.new (P.stock supply.old) (P.stock supply.new) }
+    ensures device { (number : ℕ) → IsErrOf result (StoreFault.Device number) → StoreFailed S.shown number (length sorted.now) body.old body.new (P.stock supply.old) (P.stock supply.new) }
     ensures writes { WritesFew S.shown (length sorted.now) body.old body.new (P.stock supply.old) (P.stock supply.new) }
     ensures counted { StorePays S.shown result (length sorted.now) body.old body.new (P.stock supply.old) (P.stock supply.new) }
     ensures lanes { LanesRest body.old.lanes body.new.lanes }
@@ -91,7 +92,7 @@ where
     ensures home { P.home supply.new ≡ P.home supply.old }
     ensures stored { OnOk result (BlocksStored R.Ord.cmp R.record_of R.WIDTH S.shown [] body.old body.new (P.stock supply.old) (P.stock supply.new)) }
     ensures none_free { IsErrOf result StoreFault.NoFreeBlock → NoSlots 0 body.old body.new (P.stock supply.old) (P.stock supply.new) }
-    ensures device { (number : ℕ) → IsErrOf result (StoreFault.Device number) → DeviceFailed S.shown number body.new (P.stock supply.new) }
+    ensures device { (number : ℕ) → IsErrOf result (StoreFault.Device number) → RunStopped S.shown number body.old body.new (P.stock supply.old) (P.stock supply.new) }
     ensures writes { WritesFew S.shown 0 body.old body.new (P.stock supply.old) (P.stock supply.new) }
     ensures counted { StorePays S.shown result 0 body.old body.new (P.stock supply.old) (P.stock supply.new) }
     ensures lanes { LanesRest body.old.lanes body.new.lanes }

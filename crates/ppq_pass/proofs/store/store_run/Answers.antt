@@ -63,4 +63,4 @@ pub returns-clause-device : goal.returns-clause-device
 returns-clause-device g c number err =
     let shown = g.S.Slot.shown in
     let t : stock_of shown c.into_parts.result ≡ c.store_sorted-answer.new.supply.stock = ap (λ x. x.stock) c.into_parts.ensures.same in
-    subst (DeviceFailed shown number c.store_sorted-answer.new.body) (sym t) (c.store_sorted-answer.ensures.device number err).failed
+    subst (DeviceFailed shown number c.store_sorted-answer.new.body) (sym t) (c.store_sorted-answer.ensures.device number err).stopped.failed

@@ -30,7 +30,7 @@ returns g c =
       stored = ok-map m.result (moved-stored shown g.R.Ord.cmp g.R.Record.record_of g.R.Record.WIDTH c.args.sizes a b s t runs.rest kept e.size e.takes_back e.lanes c.args.sorted.now c.requires.may.some c.requires.ascends c.requires.may.few runs.no_row no_row) e.stored;
       refused = by_fault (RunRefused shown g.R.Ord.cmp g.R.Record.record_of g.R.Record.WIDTH c.args.sizes n a b s t) m.result
           (λ err. short-stored shown g.R.Ord.cmp g.R.Record.record_of g.R.Record.WIDTH c.args.sizes a b s t runs.rest kept e.size e.takes_back e.lanes c.args.sorted.now c.requires.may.some c.requires.ascends runs.no_row no_row (e.none_free err))
-          (λ number err. (e.device number err).failed);
+          (λ number err. (e.device number err).stopped.failed);
       pays = pays-stored shown c.args.sizes a b s t runs.rest.block runs.no_row no_row m.result n e.counted;
     }
 

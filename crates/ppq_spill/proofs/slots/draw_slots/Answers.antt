@@ -1,7 +1,16 @@
-use Rattle.std.proofs.Common.{◌∷◌, [], length, sym, ap, ◌∙◌, subst, arith, length-append}
+use Rattle.std.proofs.Common.{◌∷◌, [], length, refl, sym, ap, ◌∙◌, subst, arith, length-append}
 use Rattle.ppq_spill.specs.Moves.{DrewSlots}
-use Rattle.ppq_spill.proofs.Moving.{draws_more}
+use Rattle.ppq_spill.proofs.Moving.{draws_none, draws_more}
 use Rattle.ppq_spill.proofs.slots.draw_slots.Goals as goal
+
+pub loop-supply-init : goal.loop-supply-init
+loop-supply-init g c =
+    let now = g.P.Supply.stock c.args.supply.now in
+    record {
+      drew = subst (DrewSlots g.S.Slot.shown g.R.Record.WIDTH now now) (sym c.empty-berths.ensures) (draws_none g.S.Slot.shown g.R.Record.WIDTH now);
+      within = omega (arith, ap length c.empty-berths.ensures);
+      home = refl;
+    }
 
 pub loop-supply-preserved : goal.loop-supply-preserved
 loop-supply-preserved g c =

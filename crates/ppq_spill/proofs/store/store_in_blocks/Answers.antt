@@ -9,7 +9,7 @@ use Rattle.ppq_spill.specs.Writing.{SameBuffers, Writing, WriteFailed, block_in,
 use Rattle.ppq_spill.proofs.Idle.{block_in_is}
 use Rattle.ppq_spill.proofs.Keeping.{too_few, same_buffers, same_blocks, slots_more, buffers_more, slots_long}
 use Rattle.ppq_spill.proofs.InBlocks.{blocks_stored}
-use Rattle.ppq_spill.proofs.Storings.{kept_refused, kept_written, kept_failed, went_refused, went_written, went_failed, room_failed, buffers_failed, sizes_after}
+use Rattle.ppq_spill.proofs.Storings.{kept_refused, kept_written, kept_failed, went_refused, went_written, went_failed, room_failed, buffers_failed, run_stopped, sizes_after}
 use Rattle.ppq_spill.proofs.Going.{more_writes}
 use Rattle.ppq_spill.proofs.Transfers.{fewer}
 use Rattle.ppq_spill.proofs.store.store_in_blocks.Goals as goal
@@ -261,3 +261,11 @@ returns-in-Some-failed-clause-leaves g c =
           (subst (All (ArrayHasSize shown (old.block * w))) (sym pushed) (All-push (ArrayHasSize shown (old.block * w)) c.args.body.now.runs.external.items array is.external put));
       rooms = record { internal = rests.internal_room; external = c.push_reserved.ensures.capacity ∙ ap (λ v. vec_capacity v) rests.external; tree = rests.leaves };
     }
+
+pub returns-in-Some-failed-clause-outcome : goal.returns-in-Some-failed-clause-outcome
+returns-in-Some-failed-clause-outcome g c =
+    let body = c.args.body.now in
+    let written = c.write_run-failed.new in
+    let pushed = c.push_reserved.ensures.items ∙ ap (λ v. v.items ++ written.making.made ∷ []) c.write_run-failed.ensures.rests.external in
+    run_stopped g.S.Slot.shown g.R.Record.WIDTH (g.P.Supply.stock c.args.supply.now) (g.P.Supply.stock c.draw_slots.new.supply) (g.P.Supply.stock c.free_slot.new.supply) (g.P.Supply.stock c.free_slots.new.supply) body _ c.in-Some.berths written.making.berths
+    written.making.made c.in-Some-failed.berth _ _ c.in-Some.ensures.drawn c.free_slot.ensures.back c.free_slots.ensures.stock c.in-Some-failed.ensures.outcome.first pushed c.number-number.ensures

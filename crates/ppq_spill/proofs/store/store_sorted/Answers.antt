@@ -1,7 +1,7 @@
 use Rattle.std.proofs.Common.{◌≡◌, ◌*◌, length, All, refl, sym, ap, subst, arith}
 use Rattle.std.proofs.lemmas.List.Elements.{All-push}
 use Rattle.ppq_fetch.specs.ppq_array.Holdings.{RunHasBlock}
-use Rattle.ppq_spill.proofs.Storings.{sizes_after}
+use Rattle.ppq_spill.proofs.Storings.{sizes_after, stopped_after}
 use Rattle.std.proofs.lemmas.Result.{on_ok_weaker}
 use Rattle.ppq_spill.specs.Storing.{BlocksStored}
 use Rattle.ppq_spill.specs.Body.{body_slots}
@@ -88,7 +88,7 @@ pub returns-in-None-clause-device : goal.returns-in-None-clause-device
 returns-in-None-clause-device g c = λ number e.
     record {
       short = short_after (length c.args.sorted.now) (g.P.Supply.stock c.args.supply.now) (g.P.Supply.stock c.store_in_buffers.new.supply) (g.P.Supply.stock c.store_in_blocks.new.supply) c.in-None.ensures.scant c.store_in_blocks.ensures.scant;
-      failed = rw e at c.store_in_blocks.ensures.outcome;
+      stopped = stopped_after g.S.Slot.shown number (length c.args.sorted.now) c.args.body.now c.store_in_blocks.new.body (g.P.Supply.stock c.args.supply.now) (g.P.Supply.stock c.store_in_buffers.new.supply) (g.P.Supply.stock c.store_in_blocks.new.supply) c.in-None.ensures.scant (rw e at c.store_in_blocks.ensures.outcome);
     }
 
 pub returns-in-None-clause-counted : goal.returns-in-None-clause-counted

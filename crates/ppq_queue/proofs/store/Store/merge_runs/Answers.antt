@@ -37,7 +37,7 @@ returns g c =
         holds = ok-map m.result (λ stored. holds-runs x b t works kept no_row x.sources same-sources (moved-in_blocks shown cmp record_of width x.sizes a b s t runs.rest kept e.size e.takes_back e.lanes [] (omega (arith, c.requires.some)) c.requires.may.few runs.no_row no_row stored)) e.stored;
         refused = by_fault (Refuses shown cmp record_of width [] [] x (record x { body = b; supply = t })) m.result
             (λ err. (let short = short-merged shown cmp record_of width x.sizes a b s t runs.rest kept e.size e.takes_back e.lanes runs.no_row no_row (e.none_free err) in lacks-runs x b t works kept no_row x.sources same-sources short.moved (omega (arith, c.requires.some, internal_count a.runs.internal.items)) (inr (omega (arith, short.short)))))
-            e.device;
+            (λ number err. (e.device number err).failed);
       };
       pays = pays-more (omega arith) (omega arith) (omega arith) (omega arith) (pays-stored shown x.sizes a b s t runs.rest.block runs.no_row no_row m.result 0 e.counted);
       none = ok-map m.result (λ stored. stored.internal) e.stored;
