@@ -28,10 +28,12 @@ pub mod OneHistory
 pub mod Opening
 pub mod Paying
 pub mod Places
+pub mod Pushes
 pub mod PutIn
 pub mod Refilling
 pub mod Rejoined
 pub mod Refusals
+pub mod Rows
 pub mod Sends
 pub mod Sessions
 pub mod ShortOfBlocks

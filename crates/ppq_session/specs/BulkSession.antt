@@ -1,15 +1,16 @@
 -- What contracts see of a bulk session.
-use Rattle.std.specs.Prelude.{◌≡◌, ℕ, ◌+◌, ◌*◌, Bool, false, List, [], length, map, sum_by, None, All}
+use Rattle.std.specs.Prelude.{◌≡◌, ℕ, ◌+◌, ◌-◌, ◌*◌, Bool, false, List, [], ◌++◌, length, map, sum_by, None, All}
 use Rattle.atomic_table.specs.Seated.{TableId}
 use Rattle.ppq_pass.specs.ppq_record.Bag.{IsSameBag}
 use Rattle.ppq_pass.specs.ppq_outside.Shown.{Shown, AllTell}
 use Rattle.ppq_pass.specs.ppq_budget.Sizes.{Numbers, pool_of, lane_buffers}
 use Rattle.ppq_pass.specs.ppq_counts.Tally.{Tally}
 use Rattle.ppq_pass.specs.ppq_array.declared.berth.DeviceBlock.{DeviceBlock}
+use Rattle.ppq_pass.specs.ppq_array.Owner.{slots_shown}
 use Rattle.ppq_pass.specs.ppq_pool.Seats.{count_of}
 use Rattle.ppq_pass.specs.Passed.{PassKey, PassHolding}
 use Rattle.ppq_pass.specs.declared.shared.Shared.{Shared}
-use Rattle.ppq_queue.specs.Holding.{Holding, FoundNoBlock, MetFault}
+use Rattle.ppq_queue.specs.Holding.{Holding, AreUsed, FoundNoBlock, MetFault}
 use Rattle.ppq_session.specs.declared.fault.BeginFault.{BeginFault}
 use Rattle.ppq_session.specs.declared.fault.BeginFault.TheVariants.{Memory, NoFreeBlock as NoBlockAtBegin, Device as DeviceAtBegin}
 use Rattle.ppq_session.specs.declared.fault.SessionEnd.{SessionEnd}
@@ -78,6 +79,14 @@ module _ {S R : Type 0} where
   -- what all passes of the session share
   abbrev pub shared_by : BulkHolding S R → Shared S R
   shared_by bulk = record { row = bulk.row; pool = bulk.pool }
+
+  -- The row has each block that is free: of all blocks of the device those are in it that no run of the owner has. And these are used as those of a
+  -- queue, for the records that are in no heap
+  pub record RowHasFree (shown : S → Shown) (bulk : BulkHolding S R) : Type 0 where
+    pub in_runs : List Shown
+    pub all : bulk.slots ≡ in_runs ++ slots_shown shown bulk.items
+    pub count : length bulk.slots ≡ bulk.sizes.blocks
+    pub used : AreUsed bulk.sizes (length in_runs) bulk.buffers bulk.runs (bulk.size - bulk.begun)
 
   -- A pass to which nothing was pushed yet. Its records are in its heap, which was never stored. It holds two buffers, and none of the pool
   pub record IsFresh (pass : PassHolding S R) : Type 0 where

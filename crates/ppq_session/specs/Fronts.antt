@@ -1,5 +1,5 @@
 -- What contracts see of a front, and what its calls take of it.
-use Rattle.std.specs.Prelude.{◌≡◌, ◌++◌, ◌+◌, ◌≤◌, ℕ, min, List, Option, Some, None}
+use Rattle.std.specs.Prelude.{◌≡◌, ◌++◌, ◌+◌, ◌*◌, ◌≤◌, ℕ, min, List, length, Option, Some, None}
 use Rattle.std.specs.declared.cmp.Ordering.{Ordering}
 use Rattle.atomic_table.specs.Seated.{TableId}
 use Rattle.ppq_pass.specs.ppq_record.Bag.{IsSameBag, first_of, front, without_front, size_below}
@@ -8,6 +8,7 @@ use Rattle.ppq_pass.specs.ppq_budget.Sizes.{Numbers}
 use Rattle.ppq_pass.specs.ppq_array.Kept.{SameSlots, HasFailed, AreQuiet, all_writes}
 use Rattle.ppq_pass.specs.ppq_counts.Tally.{Tally}
 use Rattle.ppq_pass.specs.ppq_array.declared.berth.DeviceBlock.{DeviceBlock}
+use Rattle.ppq_pass.specs.ppq_array.Owner.{slots_shown}
 use Rattle.ppq_pass.specs.ppq_fetch.Taking.{NoneBelow}
 use Rattle.ppq_pass.specs.ppq_array.declared.store_fault.StoreFault.{StoreFault as QueueFault}
 use Rattle.ppq_pass.specs.ppq_array.declared.store_fault.StoreFault.TheVariants.{NoFreeBlock, Device}
@@ -63,6 +64,15 @@ module _ {S R : Type 0} where
   -- the extract buffer is empty only if no record below the limit is left, where slots tell
   abbrev pub IsReady : (R → R → Ordering) → FrontHolding S R → Type 0
   IsReady cmp front = front.in_extract ≡ 0 → AllTell front.slots → NoneBelow cmp (Some front.limit) front.bag
+
+  -- The row had each block that was free when the session began: of all blocks of the device those were put into it that no run had. The others were
+  -- full of the records that the front has or gave, but for 65 in all, and no record was anywhere else: they and the buffers have room for all. What
+  -- the front frees stays among the others
+  pub record RowHadFree (shown : S → Shown) (front : FrontHolding S R) : Type 0 where
+    pub others : List Shown
+    pub all : front.slots ≡ others ++ slots_shown shown front.items
+    pub filled : length others * front.sizes.block ≤ front.size + front.popped + 65 * front.sizes.block
+    pub enough : front.size + front.popped ≤ (length others + front.buffers) * front.sizes.block
 
   -- A call of the slot with this number failed, now or before, and the front keeps that number. It counts the records that it counted, and none
   -- was popped

@@ -42,6 +42,7 @@ pub mod OneHistory
 pub mod Opened
 pub mod Outfits
 pub mod Passes
+pub mod Pushes
 pub mod Readied
 pub mod Refusal
 pub mod SessionPass

@@ -1,6 +1,7 @@
 //! What the owner of a queue keeps while a session is on.
 ghost use Rattle.std.specs.Prelude.{◌≡◌};
 ghost use Rattle.ppq_pass.specs.ppq_budget.Sizes.{AreInRange};
+ghost use Rattle.ppq_session.specs.BulkSession.{HasBuffers, HasPool, RowHasFree};
 ghost use Rattle.ppq_session.specs.State.{bulk_holding, IsBulk};
 
 use crate::parts::BulkParts;
@@ -44,10 +45,13 @@ impl<S: Slot + Send + Sync, R: Record + Send + Sync> Bulk<S, R> {
         self.parts
     }
 
-    /// What holds of every bulk, as a clause for the proof of whoever calls it. It does nothing.
+    /// What holds of every bulk, as clauses for the proof of whoever calls it. It does nothing.
     #[inline]
     pub fn known(&self)
         ensures range { AreInRange self.now.sizes }
+        ensures row { RowHasFree S.shown self.now }
+        ensures buffers { HasBuffers self.now.sizes self.now.buffers self.now.pool }
+        ensures pool { HasPool self.now.sizes self.now.run_buffers self.now.pool }
     {
         let _count = self.parts.count;
     }

@@ -1,8 +1,11 @@
-//! The law of a session's events.
+//! The laws of a session's events.
 ghost use Rattle.ppq_session.specs.OneHistory.{StatesShowOne, PlaysAreSteps, EachStepShowsOne, AllStepsShowOne};
+ghost use Rattle.ppq_session.specs.Pushes.{PushesStandAnywhere, NothingIsPushed, GivenArePushed, PushedAreAdded};
+ghost use Rattle.ppq_pass.specs.declared.shared.PoolBuf.{PoolBuf};
+ghost use Rattle.ppq_pass.specs.ppq_array.declared.berth.DeviceBlock.{DeviceBlock};
 
 use ppq_pass::{
-    Record, buffer_steps_are_events, interleaving_laws, slot_laws, slot_steps_are_events,
+    Record, Slot, buffer_steps_are_events, interleaving_laws, slot_laws, slot_steps_are_events,
 };
 
 /// One history of a pool of buffers and a row of slots, whose seats are of the passes of a session.
@@ -29,3 +32,24 @@ pub fn sessions_are_histories<B, S, R: Record>()
     buffer_steps_are_events::<B, R>();
     slot_steps_are_events::<S, R>();
 }
+
+/// In that history each pass pushes just what it accepted, in its order.
+///
+/// In a session's beginning the passes have pushed nothing (`none`). Records are given to them by
+/// [`deal`](crate::deal) and [`push_lines`](crate::push_lines), as often as there are some, while the seats
+/// take any steps. Whatever legal history pool and row show after that, there is one with the same takes,
+/// gives, draws and stores, in their order, that goes on with the pushes so far: each pass has pushed
+/// besides, in their order, those of its records that it accepted (`given`). So each pass has pushed as
+/// many records as it accepted, and what it holds is what it began with and these; and all passes hold
+/// together what they began with and all that was pushed (`added`).
+///
+/// Where pushes stand between other events is not told: they may stand anywhere (`anywhere`).
+///
+/// It does nothing: its clauses are for the proof of whoever calls it, and for a reader.
+#[inline]
+pub fn accepted_are_pushed<S: Slot, R: Record>()
+    ensures none { NothingIsPushed S R S.shown }
+    ensures given { GivenArePushed S R S.shown }
+    ensures added { PushedAreAdded S R S.shown }
+    ensures anywhere { PushesStandAnywhere (PoolBuf R) (DeviceBlock S R) R }
+{}

@@ -69,7 +69,7 @@ pub use fault::{BeginFault, SessionEnd};
 pub use front::Front;
 pub use front_laws::{high_records_stand_back, passes_stand_back};
 pub use going::{are_going, limited_are_going};
-pub use laws::sessions_are_histories;
+pub use laws::{accepted_are_pushed, sessions_are_histories};
 pub use limit_pass::LimitPass;
 pub use limit_session::LimitSession;
 pub use line::Line;

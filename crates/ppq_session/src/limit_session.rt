@@ -10,6 +10,8 @@ ghost use Rattle.ppq_session.specs.Asks.{answers_to, left_after, removed_in, pop
 ghost use Rattle.ppq_session.specs.Batches.{passes_of};
 ghost use Rattle.ppq_session.specs.Sessions.{IsUnbegun};
 ghost use Rattle.ppq_session.specs.Readied.{MemoryLeavesLimitReady};
+ghost use Rattle.ppq_session.specs.BulkSession.{HasBuffers};
+ghost use Rattle.ppq_session.specs.Fronts.{RowHadFree};
 ghost use Rattle.ppq_session.specs.LimitSessions.{AreGoing, HasStopped, InLimits, IsOver, IsOverBy, begun_in};
 
 use crate::begin_limit::limit_begin;
@@ -172,5 +174,18 @@ impl<S: Slot + Send + Sync, R: Record + Send + Sync> LimitSession<S, R> {
             SessionEnd::Whole if all => (queue, Ok(())),
             SessionEnd::Whole => (queue, Err(QueueFault::NoFreeBlock)),
         }
+    }
+
+    /// What holds of every open session, as clauses for the proof of whoever calls it. It does nothing.
+    ///
+    /// All blocks that no run had when the session began are in the row from which its passes draw (`row`). Those
+    /// that the front frees stay with it until the session ends. All buffers of the budget are with the front, in
+    /// the pool, or two with each pass (`buffers`).
+    #[inline]
+    pub fn known(&self)
+        ensures row { RowHadFree S.shown self.now.front }
+        ensures buffers { HasBuffers self.now.front.sizes self.now.front.buffers self.now.front.pool }
+    {
+        self.front.known();
     }
 }

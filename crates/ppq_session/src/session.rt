@@ -6,6 +6,7 @@ ghost use Rattle.ppq_session.specs.Ends.{NamesFirst};
 ghost use Rattle.ppq_session.specs.Dealing.{IsGoing, HasEnded, EachAdds, records_in, records_for, part_for};
 ghost use Rattle.ppq_session.specs.Sessions.{InSession, IsLoaded, IsLeftBy, IsUnbegun};
 ghost use Rattle.ppq_session.specs.Readied.{MemoryLeavesBulkReady};
+ghost use Rattle.ppq_session.specs.BulkSession.{HasBuffers, HasPool, RowHasFree};
 
 use crate::begin::bulk_begin;
 use crate::dealing::deal;
@@ -138,5 +139,19 @@ impl<S: Slot + Send + Sync, R: Record + Send + Sync> Session<S, R> {
             SessionEnd::Whole if all => (queue, Ok(())),
             SessionEnd::Whole => (queue, Err(QueueFault::NoFreeBlock)),
         }
+    }
+
+    /// What holds of every open session, as clauses for the proof of whoever calls it. It does nothing.
+    ///
+    /// All blocks that no run of the queue has are in the row from which its passes draw (`row`), so no block is
+    /// free and out of their reach. All buffers that no run of the queue has are in the pool (`pool`), with those
+    /// that stay with the queue and two for each pass they are those of the budget (`buffers`).
+    #[inline]
+    pub fn known(&self)
+        ensures row { RowHasFree S.shown self.now.bulk }
+        ensures buffers { HasBuffers self.now.bulk.sizes self.now.bulk.buffers self.now.bulk.pool }
+        ensures pool { HasPool self.now.bulk.sizes self.now.bulk.run_buffers self.now.bulk.pool }
+    {
+        self.bulk.known();
     }
 }

@@ -4,6 +4,8 @@ use Rattle.ppq_pass.specs.ppq_outside.Shown.{AllTell, Tells}
 use Rattle.ppq_pass.specs.ppq_array.Owner.{slots_shown}
 use Rattle.ppq_queue.specs.Resting.{slots_of}
 use Rattle.ppq_session.specs.BulkSession.{HasBuffers}
+use Rattle.ppq_session.specs.Fronts.{RowHadFree}
+use Rattle.ppq_session.proofs.Rows.{front-row}
 use Rattle.ppq_session.proofs.front.Front.known.Goals as goal
 
 pub returns-clause-items : goal.returns-clause-items
@@ -19,3 +21,9 @@ pub returns-clause-buffers : goal.returns-clause-buffers
 returns-clause-buffers g c =
     let front = c.self.invariant.0 in
     subst (λ f. HasBuffers f.sizes f.buffers f.pool) c.self.view_is (omega (arith, front.held, front.pool))
+
+pub returns-clause-row : goal.returns-clause-row
+returns-clause-row g c =
+    let shown = g.S.Slot.shown in
+    let s = c.self.inside in
+    subst (RowHadFree shown) c.self.view_is (front-row shown g.R.Record.record_of g.R.Record.WIDTH s.parts s.limit s.popped s.failed c.self.invariant.0 c.self.invariant.1)
