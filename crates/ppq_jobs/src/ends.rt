@@ -1,32 +1,11 @@
 //! Faults as ends.
 ghost use Rattle.std.specs.Prelude.{◌≡◌};
-ghost use Rattle.ppq_engine.specs.Running.{queue_end, open_end};
 ghost use Rattle.ppq_jobs.specs.Ending.{load_end, stop_end};
 ghost use Rattle.ppq_jobs.specs.Sweeping.{swept_end};
 
-use ppq_engine::{End, LoadFault, OpenFault};
-use ppq_event::{QueueFault, SimFault};
+use ppq_engine::{End, LoadFault, fault_end};
+use ppq_event::SimFault;
 use ppq_sweep::SweepFault;
-
-// A fault of the queue as an end.
-fn fault_end(fault: QueueFault) -> End
-    ensures { result ≡ queue_end fault }
-{
-    match fault {
-        QueueFault::NoFreeBlock => End::NoFreeBlock,
-        QueueFault::Device { number } => End::DeviceFault { number },
-    }
-}
-
-// Why a queue was not opened, as an end.
-pub(crate) fn unopened(fault: OpenFault) -> End
-    ensures { result ≡ open_end fault }
-{
-    match fault {
-        OpenFault::TooSmall { need } => End::BudgetTooSmall { need },
-        OpenFault::Memory => End::Memory,
-    }
-}
 
 // Why a record file of `said` bytes was not loaded, as an end.
 pub(crate) fn unloaded(fault: LoadFault, said: u64) -> End

@@ -16,8 +16,8 @@ ghost use Rattle.ppq_jobs.specs.Ending.{IsOpened, RanOut, HasShrunk, EndsAgenda}
 
 use crate::Agenda;
 use crate::desk::Desk;
-use crate::ends::{stopped, unloaded, unopened};
-use ppq_engine::{End, Ended, Library, Sink, load_file};
+use crate::ends::{stopped, unloaded};
+use ppq_engine::{End, Ended, Library, Sink, load_file, unopened};
 use ppq_event::{Gate, Handler, Host, Queue, Sizes, Slot, Triple, simulate};
 use std::alloc::Global;
 

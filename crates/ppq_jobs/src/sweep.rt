@@ -14,10 +14,10 @@ ghost use Rattle.ppq_jobs.specs.Ending.{IsOpened, HasShrunk};
 ghost use Rattle.ppq_jobs.specs.Sweeping.{AreNewHalves, EndsGraph};
 
 use crate::Graph;
-use crate::ends::{swept, unloaded, unopened};
+use crate::ends::{swept, unloaded};
 use crate::halves::{Halves, split, together};
 use crate::loading::{WIDTH, load_edges};
-use ppq_engine::{End, Ended, Library};
+use ppq_engine::{End, Ended, Library, unopened};
 use ppq_sweep::{Gate, Host, Pair, Queue, Sink, Sizes, Slot, levels};
 use std::alloc::Global;
 
