@@ -218,7 +218,7 @@ module _
     halt-told halt.Over h f = moved (Ended end.Done) f.0 f.1 f.2 (all-told h.0 (Ended end.Done) (says-done h.0 h.1, h.2, h.3))
     halt-told (halt.Bad number) h f =
         moved (BadRequest number) f.0 f.1 f.2 (all-told h.0 (BadRequest number) (h.2, h.3, record { sink_same = h.0.same; library_same = h.1 }, quiet-later h.0))
-    halt-told halt.Source h f = moved (Ended end.ReadFault) f.0 f.1 f.2 (all-told h.0 (Ended end.ReadFault) (h.1, h.0.same))
+    halt-told halt.Source h f = moved (Ended end.ReadFault) f.0 f.1 f.2 (all-told h.0 (Ended end.ReadFault) ((h.1, h.0.same), h.2))
     halt-told (halt.Stopped stop) h f =
         let P : List (Command R) → Type 0 = λ cs. Halted w Bytes queue before mid cs new has stop in
         let halted = subst P (append-nil commands) (h.0 queue before [] [] block tt begun) in

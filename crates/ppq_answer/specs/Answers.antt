@@ -3,7 +3,7 @@ use Rattle.std.specs.Prelude.{◌≡◌, ◌<◌, ℕ, ◌+◌, List, [], ◌++�
 use Rattle.ppq_frames.specs.ppq_outside.Shown.{Shown, AllTell}
 use Rattle.ppq_frames.specs.ppq_outside.Told.{Reply, TakesAll, TakesPart}
 use Rattle.ppq_frames.specs.ppq_outside.declared.source.Source.{Ghosts as SourceShows}
-use Rattle.ppq_frames.specs.Frames.{Came}
+use Rattle.ppq_frames.specs.Frames.{Came, IsPart}
 use Rattle.ppq_engine.specs.ppq_script.Words.{Words}
 use Rattle.ppq_engine.specs.ppq_script.declared.form.Form.TheVariants as form
 use Rattle.ppq_engine.specs.ppq_load.ppq_budget.Sizes.{Numbers, fixed_of}
@@ -55,6 +55,7 @@ module _ {R : Type 0} (w : Words R) {I : Type 0} (source : SourceShows I) (old_s
   -- what each outcome says
   abbrev pub OutcomeSays : Outcome → Type 0
   OutcomeSays (Ended end.Done) = TalkSays end.Done × source.over new_source × (waiting ≡ [])
+  OutcomeSays (Ended end.ReadFault) = TalkSays end.ReadFault × IsPart waiting
   OutcomeSays (Ended end.Memory) = Unopened
   OutcomeSays (Ended (end.BudgetTooSmall need)) = Unopened × (sizes.memory < fixed_of sizes) × (need ≡ fixed_of sizes)
   OutcomeSays (Ended end) = TalkSays end

@@ -59,7 +59,7 @@ module _ {R : Type 0} (w : Words R) (form : Form) where
     abbrev pub Halts : List (List ℕ) → Halt → Type 0
     Halts requests Over = Answered requests × Unfailed × source.over new_source × (waiting ≡ [])
     Halts requests (Bad number) = Answered requests × Unfailed × (number ≡ length requests + 2) × IsNoRequest w (source.over new_source) (length requests + 1) waiting
-    Halts requests Source = Answered requests × Rose (source.faults old_source) (source.faults new_source)
+    Halts requests Source = Answered requests × Rose (source.faults old_source) (source.faults new_source) × IsPart waiting
     Halts requests (Stopped stop) = StopsAmong w form mid now old new had has (talk_of w requests) stop × Unfailed × SinkAfter sink sink_now stop
 
     -- a talk: requests came whole, one behind the other, and each was answered; but the last one may have stopped

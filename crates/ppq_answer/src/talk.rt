@@ -40,8 +40,8 @@ where
 }
 
 // Answers the first frame, which was taken before, and then requests as long as they come. Each is looked at whole
-// before any of it is executed, and the answer is put before the next one is looked at. The source is called only while less than a frame came. The first request has
-// number 2, as the frame behind the first one; none has number 2^64 - 1.
+// before any of it is executed, and its answer is put before the next one is looked at. The source is called only while
+// less than a frame came. The first request has number 2, as the frame behind the first one; none has number 2^64 - 1.
 pub fn talk<H: Host, S: Slot + Send + Sync, R: Fields + Send + Sync, I: Source, O: Sink, G: Gate>(
     machine: &mut Machine<S, R>,
     world: &World<'_, H, G>,

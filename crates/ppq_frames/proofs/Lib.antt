@@ -1,3 +1,2 @@
-mod Cutting
 mod Parting
 mod Windows

@@ -29,7 +29,7 @@ module _ {I : Type 0} (source : SourceShows I) (old_source new_source : I) (was_
 
   -- why there is none
   abbrev pub FirstSays : Outcome → Type 0
-  FirstSays (Ended end.ReadFault) = Rose (source.faults old_source) (source.faults new_source)
+  FirstSays (Ended end.ReadFault) = Rose (source.faults old_source) (source.faults new_source) × IsPart waiting
   FirstSays (Ended _) = ⊥
   FirstSays (BadRequest number) = (number ≡ 1) × IsNoHello (source.over new_source) waiting × (source.faults new_source ≡ source.faults old_source)
 

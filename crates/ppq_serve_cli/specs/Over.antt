@@ -1,5 +1,7 @@
 -- Requests over a device: by the arguments and the type of the records.
 use Rattle.std.specs.Prelude.{◌≡◌, ◌⊎◌, ◌<◌, ◌≤◌, ℕ, List, [], ◌++◌, map, Option}
+use Rattle.std.specs.List.{range_with_len}
+use Rattle.ppq_answer.specs.ppq_frames.ppq_outside.Made.{HasMade}
 use Rattle.ppq_answer.specs.ppq_frames.ppq_outside.Shown.{Shown, AllTell}
 use Rattle.ppq_answer.specs.ppq_frames.ppq_outside.Told.{Rose}
 use Rattle.ppq_answer.specs.ppq_frames.ppq_outside.declared.rack.Rack.{Ghosts as RackShows}
@@ -49,12 +51,15 @@ module _ {R : Type 0} (w : Words R) {I K O S : Type 0} (source : SourceShows I) 
     pub none : answered.blocks.items ≡ []
     pub says : UnmadeSays answered.outcome
 
-  -- one was made, of new blocks that tell where the rack does; and requests were answered over it
+  -- The device that the arguments name was made, of all its blocks, which are new, numbered from 0 and tell where the rack does; and requests were answered
+  -- over it
   pub record HasDevice : Type 0 where
     pub first : List Shown
     pub enough : fixed_of (sizes_for w.WIDTH r.given) ≤ (sizes_for w.WIDTH r.given).memory
     pub new : AreNewSlots (sizes_for w.WIDTH r.given) w.WIDTH first
     pub tell : rack.tells old_rack → AllTell first
+    pub numbers : map (λ s. s.number) first ≡ range_with_len 0 (sizes_for w.WIDTH r.given).blocks
+    pub made : HasMade (rack.made old_rack r.device) (rack.made new_rack r.device) (range_with_len 0 (sizes_for w.WIDTH r.given).blocks)
     pub same : rack.faults new_rack ≡ rack.faults old_rack
     pub talk : ServesTalk w source (sizes_for w.WIDTH r.given) first (map shown answered.blocks.items) old_source new_source was_waiting waiting (sink.told old_out) (sink.told new_out) (sink.faults old_out) (sink.faults new_out) answered.outcome
     pub asked : talk.requests ≡ requests

@@ -1,4 +1,8 @@
 //! Reads the arguments of the program.
+ghost use Rattle.std.specs.Prelude.{◌≡◌, ◌⊎◌, IfErr};
+ghost use Rattle.ppq_answer.specs.ppq_engine.declared.end.End.TheVariants.{Usage, Memory};
+ghost use Rattle.ppq_answer.specs.declared.outcome.Outcome.TheVariants.{Ended};
+
 use ppq_answer::{End, Outcome};
 use std::alloc::{AllocError, Global};
 use std::env;
@@ -16,7 +20,9 @@ fn with_word(arguments: env::Args, alloc: Global) -> Result<Vec<String>, AllocEr
 }
 
 /// The arguments of the program, with `serve` in place of its name. One that is not UTF-8 text has no reading.
-pub fn words_of<R: Env + AllocGlobal>(rt: &R) -> Result<Vec<String>, Outcome> {
+pub fn words_of<R: Env + AllocGlobal>(rt: &R) -> Result<Vec<String>, Outcome>
+    ensures { IfErr result (λ outcome. (outcome ≡ Ended Usage) ⊎ (outcome ≡ Ended Memory)) }
+{
     let arguments = match env::args(rt) {
         Ok(arguments) => arguments,
         Err(error) if error.kind() == ErrorKind::OutOfMemory => {

@@ -21,12 +21,12 @@ waiting-smaller g c =
 pub returns-in-Request : goal.returns-in-Request
 returns-in-Request g c =
     let v = c.waiting.invariant in
-    record { awaited = first-not_part c.waiting.incoming c.in-Request.ensures.0; came = v.came; cause = record { later = omega (arith, v.stays); failed = tt; ok = v.stays } }
+    record { awaited = first-not_part c.waiting.incoming c.in-Request.ensures.0; part = tt; came = v.came; cause = record { later = omega (arith, v.stays); failed = tt; ok = v.stays } }
 
 pub returns-in-TooLong : goal.returns-in-TooLong
 returns-in-TooLong g c =
     let v = c.waiting.invariant in
-    record { awaited = long-not_part c.waiting.incoming c.in-TooLong.ensures; came = v.came; cause = record { later = omega (arith, v.stays); failed = tt; ok = v.stays } }
+    record { awaited = long-not_part c.waiting.incoming c.in-TooLong.ensures; part = tt; came = v.came; cause = record { later = omega (arith, v.stays); failed = tt; ok = v.stays } }
 
 pub returns-in-End : goal.returns-in-End
 returns-in-End g c =
@@ -36,6 +36,7 @@ returns-in-End g c =
     let has = subst P c.in-End.is c.in-Ok.ensures.filled in
     record {
       awaited = (has.0, has.2);
+      part = tt;
       came = λ told requests was. c.fill.ensures.came told requests (v.came told requests was);
       cause = record { later = omega (arith, same); failed = tt; ok = same };
     }
@@ -49,6 +50,7 @@ returns-in-CutOff g c =
     let Q : List ℕ → Type 0 = λ bytes. IsPart bytes in
     record {
       awaited = (has.0, λ none. has.1 (sym has.2 ∙ none), subst Q (sym has.2) c.in-Part.ensures);
+      part = tt;
       came = λ told requests was. c.fill.ensures.came told requests (v.came told requests was);
       cause = record { later = omega (arith, same); failed = tt; ok = same };
     }
@@ -57,8 +59,10 @@ pub returns-in-Err : goal.returns-in-Err
 returns-in-Err g c =
     let v = c.waiting.invariant in
     let P : ℕ → Type 0 = λ n. Rose n (g.I.Source.faults c.fill.new.source) in
+    let Q : List ℕ → Type 0 = λ bytes. IsPart bytes in
     record {
       awaited = tt;
+      part = subst Q (sym c.in-Err.ensures.same) c.in-Part.ensures;
       came = λ told requests was. c.fill.ensures.came told requests (v.came told requests was);
       cause = record { later = omega (arith, c.in-Err.ensures.cause.later, v.stays); failed = subst P v.stays c.in-Err.ensures.cause.failed; ok = tt };
     }

@@ -18,7 +18,7 @@ returns-in-CutOff g c =
     record { taken = tt; lacks = record { came = c.wait.ensures.came; says = (refl, inr (ended.0, ended.2), c.in-Ok.ensures.cause.ok) } }
 
 pub returns-in-Err : goal.returns-in-Err
-returns-in-Err g c = record { taken = tt; lacks = record { came = c.wait.ensures.came; says = c.in-Err.ensures.cause.failed } }
+returns-in-Err g c = record { taken = tt; lacks = record { came = c.wait.ensures.came; says = (c.in-Err.ensures.cause.failed, c.in-Err.ensures.part) } }
 
 pub returns-in-None : goal.returns-in-None
 returns-in-None g c = record { taken = tt; lacks = record { came = c.wait.ensures.came; says = (refl, inl c.in-None.ensures.none, c.in-Ok.ensures.cause.ok) } }

@@ -1,5 +1,7 @@
 use Rattle.std.proofs.Common.{◌≡◌, ◌∙◌, ◌<◌, ◌≤◌, ℕ, [], refl, sym, ap, subst, arith, inl, inr}
 use Rattle.std.specs.Prelude.{map}
+use Rattle.std.specs.List.{range_with_len}
+use Rattle.ppq_answer.specs.ppq_frames.ppq_outside.Made.{HasMade}
 use Rattle.ppq_answer.specs.ppq_engine.ppq_load.ppq_budget.Sizes.{Numbers, fixed_of}
 use Rattle.ppq_answer.specs.ppq_engine.ppq_queue.Holding.{AreNewSlots}
 use Rattle.ppq_requests.specs.ppq_script.Words.{words}
@@ -23,6 +25,9 @@ returns-in-Ok g c = let w = words g.R.PartialEq g.R.PartialOrd g.R.Ord g.R.Recor
     let Talk : Numbers → Type 0 =
     λ n.
     ServesTalk w g.I.Source n first (map g.K.Slot.Slot.shown c.serve.result.blocks.items) c.args.source.now c.serve.new.source c.args.incoming.now c.serve.new.incoming (g.O.Sink.told c.args.out.now) (g.O.Sink.told c.serve.new.out) (g.O.Sink.faults c.args.out.now) (g.O.Sink.faults c.serve.new.out) c.serve.result.outcome in
+    let device = (as_serve_reading c.args.arguments.now).device in
+    let Numbered : Numbers → Type 0 = λ n. map (λ s. s.number) first ≡ range_with_len 0 n.blocks in
+    let Made : Numbers → Type 0 = λ n. HasMade (g.K.Rack.made c.args.rack.now device) (g.K.Rack.made c.make_blocks-made.new.rack device) (range_with_len 0 n.blocks) in
     let enough : Enough c.for_width-sizes.result = omega (arith, c.if-memory-fixed.false, c.fixed.ensures, c.memory.ensures.same) in
     let talk = subst Talk are c.serve.ensures in (
       talk.requests,
@@ -31,6 +36,8 @@ returns-in-Ok g c = let w = words g.R.PartialEq g.R.PartialOrd g.R.Ord g.R.Recor
         enough = subst Enough are enough;
         new = subst New are c.in-Ok.ensures.new;
         tell = c.in-Ok.ensures.tell;
+        numbers = subst Numbered are c.in-Ok.ensures.numbers;
+        made = subst Made are c.in-Ok.ensures.made;
         same = c.in-Ok.ensures.cause.ok;
         talk = talk;
         asked = refl;
