@@ -445,3 +445,17 @@ fn twenty_records_go_to_the_passes_in_three_batches_and_generated_ones_in_one(rt
         assert_eq!(rt; gate.entered(), 2 * batches, "{script}");
     }
 }
+
+#[test]
+fn records_are_popped_by_rounds_of_a_block_for_each_worker(rt: HostRuntime) {
+    let script = "bulk f\ndrain 999\n";
+    let gate = PairGate::new();
+    let sizes = Sizes::new(2, 16, 1, 1_500, 100);
+    let text = script.as_bytes();
+    let ran = outcome_of(&rt, rt.alloc(), text, sizes, File::of(128), NEVER, &gate);
+    let output = "count 128 first 7 7 last 7 7 sum 896\n";
+    is_as(&rt, ran, script, End::Done, output);
+    // 2 workers enter in front of each of 4 pieces of 32 records, and in front of each merge of as many for a round: at most
+    // 4, and one that finds no more
+    assert!(rt; gate.entered() <= 2 * 4 + 2 * 5, "{}", gate.entered());
+}

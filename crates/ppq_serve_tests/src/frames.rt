@@ -77,6 +77,28 @@ fn frames_come_whole_whatever_the_pieces_are(rt: HostRuntime) {
     }
 }
 
+// How many bytes a call gives at the most, and how often a source of the three frames is asked: once a piece, and once at
+// its end.
+const ASKED: &[(usize, u64)] = &[(1, 16), (2, 9), (5, 4), (7, 4), (15, 2), (16, 2)];
+
+#[test]
+fn a_source_is_asked_once_a_piece(rt: HostRuntime) {
+    let alloc = rt.alloc();
+    // nothing waits in it behind the last frame
+    let mut incoming = Incoming::new(alloc).expect(&rt, "memory");
+    for (most, calls) in ASKED {
+        let next = calls.saturating_add(1);
+        for (failing, outcome) in [(*calls, Outcome::Failed), (next, Outcome::End)] {
+            let plan = vec![in alloc; failing].expect(&rt, "memory");
+            let mut source = MemSource::new(bytes_of(&rt, alloc, THREE), *most, plan);
+            let mut taken = Vec::new(alloc);
+            let ended = take_all(&rt, &mut incoming, &mut source, &mut taken);
+            assert_eq!(&rt; ended, outcome, "{most} at a time");
+            assert!(&rt; taken.as_slice() == b"ab||c|".as_slice());
+        }
+    }
+}
+
 // How many of the bytes come, the requests that are whole, and how it ends: at the end of input between two frames,
 // or in one.
 const CUT: &[(usize, &[u8], Outcome)] = &[
