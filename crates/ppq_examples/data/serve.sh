@@ -1,6 +1,6 @@
 #!/bin/sh
 # Runs the smallest client of a server over the built program, in a folder of its own that it removes at the end, and
-# compares what it prints. It needs python3, and `./ppq`, which proves and builds the program first.
+# compares what it prints. It needs python3, and that `./ppq build` was called before.
 set -eu
 top=$(cd "$(dirname "$0")/.." && pwd)
 work=$(mktemp -d)
