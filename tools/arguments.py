@@ -1,5 +1,6 @@
 """The arguments of the program's commands, as docs/scripts.md has them ("Arguments"): their values, and what is wrong with
 them."""
+import re
 import typing
 
 from fields import LAST, number_fault, shown
@@ -99,13 +100,28 @@ def split(words):
     return Arguments(command, values, None)
 
 
+def is_shortened(value):
+    """Whether a value is a number with K, M or G behind it, as `ppq sizes` takes them."""
+    return re.fullmatch("[0-9]{1,20}[KMG]", value) is not None
+
+
+def in_bytes(name, value):
+    """Returns how a budget with K, M or G behind it is written for the program, in brackets; else nothing."""
+    if name not in BUDGETS or not is_shortened(value):
+        return ""
+    count = int(value[:-1]) << 10 * ("KMG".index(value[-1]) + 1)
+    return f" (`--memory-bytes {count}`)" if count <= NUMBERS["--memory-bytes"][1] else ""
+
+
 def value_fault(name, value):
     """Returns what is wrong with the value of an option, or None."""
     if name in NUMBERS:
         least, greatest, what = NUMBERS[name]
+        if name not in SIZES + BUDGETS and is_shortened(value):
+            return f"{name}: {shown(value)} is no number in decimal digits: write {int(value[:-1]) * 1000 ** ('KMG'.index(value[-1]) + 1)}"
         fault = number_fault(value)
         if fault:
-            return f"{name}: {fault}"
+            return f"{name}: {fault}{in_bytes(name, value)}"
         return None if least <= int(value) <= greatest else f"{name} {value} is out of its range: {what}, {least} to {greatest}"
     if name == "--form" and value not in ("text", "bytes"):
         return f"--form is text or bytes, and not {shown(value)}"

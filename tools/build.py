@@ -21,6 +21,7 @@ CRATES = TOP / "crates"
 MEMORY_OF_A_JOB = 3_000_000  # KiB that the proof of a crate takes at most, or nearly, and not quite as much for each job more
 MOST_JOBS = 4  # of one crate
 NOT_BUILT, INTERRUPTED = 125, 130
+ENDING = (signal.SIGHUP, signal.SIGINT, signal.SIGTERM)
 
 
 def uses():
@@ -160,9 +161,17 @@ class Build:
                 process.wait()
 
 
+def interrupt(*_):
+    """Ends at the first signal, and lets no second one keep `stop` from its work: Ctrl-C comes from the terminal, and from
+    `ppq` too."""
+    for number in ENDING:
+        signal.signal(number, signal.SIG_IGN)
+    sys.exit(INTERRUPTED)
+
+
 def main(programs):
-    for number in signal.SIGHUP, signal.SIGINT, signal.SIGTERM:
-        signal.signal(number, lambda *_: sys.exit(INTERRUPTED))
+    for number in ENDING:
+        signal.signal(number, interrupt)
     build = Build(programs)
     try:
         build.run()

@@ -5,9 +5,12 @@
     tools/reasons.py after STATUS WORDS..   # why it ended with this status
 
 WORDS are the program's arguments, and the current folder is that of the program. What is found is one line on standard
-error. `before` ends with the status that the program would end with, and `after` with 0.
+error. `before` ends with the status that the program would end with, and `after` with 0. Where nothing is refused, `before`
+also looks at the edges of a file of at most 64 MB.
 """
+import array
 import fcntl
+import operator
 import os
 import resource
 import signal
@@ -23,6 +26,7 @@ from fields import KINDS, length_fault, shown
 
 USAGE, BAD_LINE, NO_READ, TOO_SMALL, NO_FILE, TOO_LONG, BAD_AGENDA, BAD_EDGE = 2, 1, 3, 7, 11, 12, 13, 14
 BATCH = 4096  # edges that are read at once
+LONGEST_LOOK = 64_000_000  # bytes of a file of edges that is looked at beforehand
 
 
 def status_of(name):
@@ -70,18 +74,18 @@ def script_refusal(given, name):
     return (BAD_LINE, f"{name}, line {script.bad[0]}: {script.bad[1]}") if script.bad else None
 
 
-def with_sizes(given, dropped=()):
+def with_sizes(given, dropped=(), served="pair"):
     """Returns the sizes of a command's arguments, but for those that are dropped, which are chosen anew."""
-    return sizes.of_arguments(given, [it for it in (*arguments.SIZES[1:], given.unit) if it not in dropped])
+    return sizes.of_arguments(given, [it for it in (*arguments.SIZES[1:], given.unit) if it not in dropped], served=served)
 
 
-def too_small(given):
-    """Returns why a budget is below its fixed part, or None."""
-    asked = with_sizes(given)
+def too_small(given, served="pair"):
+    """Returns why a budget is below its fixed part, or None; of a server if its records are of this kind."""
+    asked = with_sizes(given, served=served)
     if asked.memory >= asked.least():
         return None
-    unit = sizes.width_of(given) if given.unit == "--memory-bytes" else 1
-    smaller = with_sizes(given, ("--block", "--blocks"))
+    unit = sizes.width_of(given, served) if given.unit == "--memory-bytes" else 1
+    smaller = with_sizes(given, ("--block", "--blocks"), served)
     hint = f"; --block {smaller.block} and --blocks {smaller.blocks} do with this budget" if smaller.fault() is None else ""
     return f"{given.unit} {given.number(given.unit)} is below the fixed part of these sizes: {given.unit} {asked.least() * unit} is the least{hint}"
 
@@ -213,19 +217,46 @@ def device_fault(given):
     return f"another program has {name}, and its lock" if stat.S_ISREG(found.st_mode) and is_locked(name) else None
 
 
+def budget_fault(given):
+    """Returns why a budget is below its fixed part that was not seen to be so before: the records of a server are triples."""
+    fault = too_small(given, "triple")
+    return f"{fault}, of triples" if fault else None
+
+
+def are_edges(piece, nodes):
+    """Whether all records of a piece are edges between so many nodes."""
+    numbers = array.array("Q", piece)
+    if sys.byteorder == "little":
+        numbers.byteswap()
+    starts, ends = numbers[::2], numbers[1::2]
+    return max(ends) < nodes and all(map(operator.lt, starts, ends))
+
+
 def edge_fault(given):
     """Returns what is wrong with the first bad edge of a file."""
     if given.command != "sweep":
         return None
-    name, nodes, number = given.values[arguments.FILE], given.number("--nodes"), 0
+    name, nodes, before = given.values[arguments.FILE], given.number("--nodes"), 0
     with open(name, "rb") as file:
-        while piece := file.read(16 * BATCH):
-            for number, (start, end) in enumerate(struct.iter_unpack(">2Q", piece), number + 1):
-                if start >= end:
-                    return f"{name}: edge {number} leads from {start} to {end}, and an edge leads to a greater node"
-                if end >= nodes:
-                    return f"{name}: edge {number} leads from {start} to {end}, and with --nodes {nodes} the last node is {nodes - 1}"
+        while (piece := file.read(16 * BATCH)) and are_edges(piece, nodes):
+            before += len(piece) // 16
+    for number, (start, end) in enumerate(struct.iter_unpack(">2Q", piece), before + 1):
+        if start >= end:
+            other = "; that need not be a cycle: other numbers of the nodes may do" * (start > end)
+            return f"{name}: edge {number} leads from {start} to {end}, and an edge leads to a greater node{other}"
+        if end >= nodes:
+            return f"{name}: edge {number} leads from {start} to {end}, and with --nodes {nodes} the last node is {nodes - 1}"
     return None
+
+
+def edge_refusal(words):
+    """Returns the status and why if a file of edges has a bad one, of good arguments. A file that is longer than a look
+    allows is not read, nor one for which the device may have no room: the program may meet that first."""
+    given = arguments.split(words)
+    if given.command != "sweep" or os.path.getsize(given.values[arguments.FILE]) > LONGEST_LOOK or room_fault(given):
+        return None
+    fault = edge_fault(given)
+    return (BAD_EDGE, fault) if fault else None
 
 
 def signal_fault(number):
@@ -237,7 +268,7 @@ def signal_fault(number):
     return f"the program was ended by signal {number} {name}{by}"
 
 
-SEEN = {4: output_fault, 5: block_fault, 6: room_fault, 8: memory_fault, 9: changed_fault, 10: device_fault, BAD_EDGE: edge_fault}
+SEEN = {4: output_fault, 5: block_fault, 6: room_fault, TOO_SMALL: budget_fault, 8: memory_fault, 9: changed_fault, 10: device_fault, BAD_EDGE: edge_fault}
 
 
 def reason_of(status, words):
@@ -258,7 +289,7 @@ def say(reason):
 def main():
     what, *words = sys.argv[1:] or [""]
     if what == "before":
-        status, reason = refusal_of(words) or (0, None)
+        status, reason = refusal_of(words) or edge_refusal(words) or (0, None)
         say(reason)
         return status
     if what != "after" or not words or not words[0].isdigit():

@@ -7,14 +7,16 @@
 LOAD is the most records that are held at once; K, M and G stand for 10^3, 10^6 and 10^9 of them. It prints options for the
 program: those that are given, and the others as they suit the load. --memory is in records, as it is for the program; with
 K, M or G behind it, it is in KiB, MiB or GiB. --width is the bytes of a record, 16 if it is left out. --disk slow is for a
-disk of some 0.5 ms a call. --queues 2 is for `ppq sweep`, whose two queues have half of the blocks and of the budget each.
-On standard error it says how large the device gets, and what the budget holds.
+disk of some 0.5 ms a call. --queues 2 is for `ppq sweep`, whose two queues have half of the blocks and of the budget each,
+and which gets one worker: more were no faster. On standard error it says how large the device gets, and what the budget
+holds.
 
     tools/sizes.py fill WORDS..
 
 prints the words of the program, each with a zero byte after it, and behind them those sizes that `run`, `sim`, `sweep` or
 `serve` lacks. It says on standard error what it took. Words that the program refuses stay as they are. The words of `serve`
-may have `--load LOAD`, which the program does not get; 16M is taken if it is left out.
+may have `--load LOAD`, which the program does not get; 16M is taken if it is left out, and a load for which the sizes do not
+do ends it with 2. Since the client of a server names its records later, `--memory-bytes` is taken for triples there.
 """
 import argparse
 import os
@@ -43,6 +45,11 @@ def room(load, workers, block):
 def fixed(workers, block, heap, blocks):
     """The fixed part of a budget, in records."""
     return block * (workers * heap + 6 * workers + 72) + blocks
+
+
+def budget_text(records, width):
+    """A budget in records, and in megabytes of records of so many bytes."""
+    return f"{records} ({records * width / 1e6:.1f} MB)"
 
 
 def cores():
@@ -102,12 +109,18 @@ class Sizes:
         """How many buffers the budget of one queue leaves for runs."""
         return min(MOST_POOL, (self.memory - self.least()) // self.queues // self.block)
 
-    def fault(self):
-        """Returns why these sizes do not do, or None."""
+    def least_budget(self, width):
+        """Says which budget is the least, with records of so many bytes, and which with one worker."""
+        alone = Sizes(self.load, {**self.given, "workers": 1}, 1, self.queues)
+        with_one = "" if self.workers == 1 else f", and with --workers 1 {budget_text(alone.least(), width)}"
+        return f"--memory {budget_text(self.least(), width)} is the least{with_one}"
+
+    def fault(self, width=16):
+        """Returns why these sizes do not do, with records of so many bytes, or None."""
         if not self.fits(self.block):
             return f"{self.load} records at once want {self.queues * self.room(self.block)} blocks of {self.block} records, and there are at most {self.given.get('blocks', MOST_BLOCKS)}"
         if self.memory < self.least():
-            return f"the budget is {self.memory} records, and its fixed part {self.least()}"
+            return f"the budget is {self.memory} records, and its fixed part {self.least()}: {self.least_budget(width)}"
         return None
 
     def words(self, names=arguments.SIZES[1:] + ("--memory",)):
@@ -143,8 +156,10 @@ def size_of(name):
 def budget_of(text):
     """Returns a budget and whether it is in bytes."""
     in_bytes = text[-1:] in "KMG"
-    value = str(amount(text, 1024))
-    return size_of(arguments.BUDGETS[in_bytes])(value), in_bytes
+    value = amount(text, 1024)
+    if in_bytes and value > arguments.NUMBERS["--memory-bytes"][1]:
+        raise argparse.ArgumentTypeError(f"{text} is above the largest budget, 4G")
+    return size_of(arguments.BUDGETS[in_bytes])(str(value)), in_bytes
 
 
 def parsed(words):
@@ -162,10 +177,11 @@ def parsed(words):
     return parser.parse_args(words)
 
 
-def report(sizes, width):
-    """Says what sizes come to."""
+def report(sizes, width, budget):
+    """Says what sizes come to, with a budget that is written so."""
     print(f"ppq: the device gets at most {sizes.device_megabytes(width)} MB", file=sys.stderr)
-    print(f"ppq: the smallest --memory is {sizes.least()} ({sizes.least() * width / 1e6:.1f} MB); this one has {sizes.pool()} buffers for runs", file=sys.stderr)
+    megabytes = f"{sizes.memory * width / 1e6:.1f} MB"
+    print(f"ppq: {budget} is {megabytes}, with {sizes.pool()} buffers for runs; the smallest --memory is {budget_text(sizes.least(), width)}", file=sys.stderr)
 
 
 def print_sizes(words):
@@ -174,12 +190,12 @@ def print_sizes(words):
     budget, in_bytes = options.memory or options.memory_bytes or (None, False)
     given = {it: value for it in ("workers", "block", "heap", "blocks") if (value := getattr(options, it)) is not None}
     given.update({} if budget is None else {"memory": budget // options.width if in_bytes else budget})
-    sizes = Sizes(options.load, given, cores(), options.queues, options.disk == "slow")
+    sizes = Sizes(options.load, given, cores() if options.queues == 1 else 1, options.queues, options.disk == "slow")
     if sizes.fault():
-        sys.exit(f"ppq: no: {sizes.fault()}")
+        sys.exit(f"ppq: no: {sizes.fault(options.width)}")
     chosen = sizes.words() if not in_bytes else [*sizes.words()[:-2], "--memory-bytes", str(budget)]
     print(*["--device", DEVICE, *chosen])
-    report(sizes, options.width)
+    report(sizes, options.width, " ".join(chosen[-2:]))
 
 
 def length_of(name):
@@ -223,9 +239,9 @@ def workers_of_script(script):
     return max(cores() if together else 1, *passes, 1)
 
 
-def width_of(given):
-    """Returns the bytes of a record of a command; what those of a server are its client says later."""
-    kinds = {"sim": "triple", "sweep": "pair", "serve": "pair"}
+def width_of(given, served="pair"):
+    """Returns the bytes of a record of a command. Of which kind those of a server are, its client says later: `served`."""
+    kinds = {"sim": "triple", "sweep": "pair", "serve": served}
     return 8 * KINDS[kinds.get(given.command) or read_script(given.values[arguments.FILE]).kind]
 
 
@@ -241,16 +257,23 @@ def needs_of(given, load=None):
     if given.command == "sim":
         # Of each event of the agenda at most two wait at once, by the kinds of the roster's places (docs/simulation.md).
         return records + min(records, given.number("--events")), cores()
-    return records, cores()
+    return records, 1
 
 
-def of_arguments(given, names, load=None):
-    """Returns sizes for a command: those of its arguments that have these names, and the others as they suit it."""
+def of_arguments(given, names, load=None, served="pair"):
+    """Returns sizes for a command: those of its arguments that have these names, and the others as they suit it; those of a
+    server for records of this kind."""
     load, workers = needs_of(given, load)
     known = {it[2:]: given.number(it) for it in names}
     if "memory-bytes" in known:
-        known["memory"] = known.pop("memory-bytes") // width_of(given)
+        known["memory"] = known.pop("memory-bytes") // width_of(given, served)
     return Sizes(load, known, workers, 2 if given.command == "sweep" else 1)
+
+
+def refuse(fault):
+    """Ends as the program does with a wrong argument, and says what is wrong with the load of a server."""
+    print(f"ppq: why: --load{fault}", file=sys.stderr)
+    sys.exit(2)
 
 
 def without_load(words):
@@ -262,11 +285,12 @@ def without_load(words):
         if name != "--load":
             kept.append(word)
             continue
+        if load is not None:
+            refuse(" stands twice")
         try:
             load = load_of(value if equals else next(rest, ""))
         except argparse.ArgumentTypeError as fault:
-            print(f"ppq: why: --load: {fault}", file=sys.stderr)
-            sys.exit(2)
+            refuse(f": {fault}")
     return (kept, load) if kept else (words, None)
 
 
@@ -276,9 +300,12 @@ def filled(words, load=None):
     lacking = [] if given.fault or arguments.lacks_file(given) else arguments.missing(given)
     if not {*lacking} & {*arguments.SIZES, "--memory"} or any(arguments.value_fault(*it) for it in given.values.items()):
         return words
-    chosen = of_arguments(given, [it for it in (*arguments.SIZES[1:], *arguments.BUDGETS) if it in given.values], load)
+    # sizes for triples do for pairs too
+    chosen = of_arguments(given, [it for it in (*arguments.SIZES[1:], *arguments.BUDGETS) if it in given.values], load, "triple")
+    if load is not None and not chosen.fits(chosen.block):
+        refuse(f": {chosen.fault()}")
     if chosen.fault():
-        print(f"ppq: this may not do: {chosen.fault()}", file=sys.stderr)
+        print(f"ppq: this may not do: {chosen.fault(width_of(given))}", file=sys.stderr)
     device = ["--device", DEVICE] if "--device" in lacking else []
     return [*words, *device, *chosen.words([it for it in lacking if it != "--device"])]
 

@@ -89,6 +89,18 @@ class Build(unittest.TestCase):
         self.assertEqual(begun.wait(timeout=10), 130)
         self.assertFalse([it for it in self.calls() if it.startswith("end")])
 
+    def test_ends_all_that_runs_if_it_is_interrupted_twice(self):
+        (self.top / "rt").write_text(f"#!/bin/sh\ntrap 'sleep 0.5; echo stopped >> {self.top}/calls; exit 1' TERM\necho begin >> {self.top}/calls\nsleep 9\n")
+        begun = subprocess.Popen(self.command, env=self.settings, stderr=subprocess.DEVNULL)
+        while not (self.top / "calls").exists():
+            time.sleep(0.02)
+        time.sleep(0.2)
+        for _ in range(2):
+            begun.send_signal(signal.SIGINT)
+            time.sleep(0.2)
+        self.assertEqual(begun.wait(timeout=10), 130)
+        self.assertEqual(self.calls().count("stopped"), self.calls().count("begin"))
+
 
 if __name__ == "__main__":
     unittest.main()

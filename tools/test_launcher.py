@@ -7,6 +7,7 @@ import shutil
 import signal
 import subprocess
 import tempfile
+import time
 import unittest
 
 TOP = pathlib.Path(__file__).resolve().parent.parent
@@ -14,6 +15,7 @@ PROGRAM = """#!/bin/sh
 echo "$*"
 """
 TOOK = r"ppq: the run took \d+\.\d\d s, \d+\.\d\d s of processor time, (less than )?\d+\.\d MiB resident, \d+ bytes written, \d+ bytes read\n"
+FIRST = "`./ppq build` first (it takes about an hour)"
 WORDS = "run s.ppq --device a --blocks 78 --workers 1 --block 2 --heap 1 --memory 900".split()
 
 
@@ -39,10 +41,14 @@ class Launcher(unittest.TestCase):
             program.write_text(text)
             program.chmod(0o755)
 
-    def put_rt(self, status=1):
-        """Puts a command `rt` on the path, which notes how it was called, and ends with a status."""
+    def put_rt(self, status=1, said=""):
+        """Puts a command `rt` on the path, which notes how it was called, says this, and ends with a status."""
+        self.put_as_rt(f'echo "$PWD" "$@" > {self.top}/called\nprintf "{said}" >&2\nexit {status}\n')
+
+    def put_as_rt(self, lines):
+        """Puts these lines of the shell on the path as a command `rt`."""
         rt = self.top / "rt"
-        rt.write_text(f'#!/bin/sh\necho "$PWD" "$@" > {self.top}/called\nexit {status}\n')
+        rt.write_text(f"#!/bin/sh\n{lines}")
         rt.chmod(0o755)
 
     def call(self, *words, path=None):
@@ -100,6 +106,26 @@ class Launcher(unittest.TestCase):
             self.assertEqual(self.call("serve", *load, *sizes.split()), (0, f"{sizes}\n", ""))
         self.assertIn("--blocks 7890 ", self.call("serve")[1])
 
+    def test_refuses_a_load_for_which_no_sizes_do(self):
+        refused = {"3G": "3000000000 records at once want 91630 blocks of 65536 records, and there are at most 65536"}
+        refused |= {"4 --blocks 79": "4 records at once want 80 blocks of 2 records, and there are at most 79"}
+        for load, why in refused.items():
+            words = f"serve --load {load} --block 2 --heap 1" if "blocks" in load else f"serve --load {load}"
+            self.assertEqual(self.call(*words.split()), (2, "", f"ppq: why: --load: {why}\n"))
+        self.assertEqual(self.call("serve", "--load", "4M", "--load=5M"), (2, "", "ppq: why: --load stands twice\n"))
+        self.assertEqual(self.call("serve", "--blocks", "79")[0], 0)
+
+    def test_builds_nothing_for_a_server(self):
+        self.put_rt()
+        os.utime(self.server, (0, 0))
+        (self.top / "crates" / "ppq" / "src").mkdir()
+        said = self.call("serve", "--load", "4K")
+        self.assertEqual((said[:2], said[2].splitlines()[-1]), ((125, ""), f"ppq: not built since the last change of its sources: {FIRST}"))
+        self.server.unlink()
+        said = self.call("serve", "--load", "4K")
+        self.assertEqual((said[:2], said[2].splitlines()[-1]), ((125, ""), f"ppq: not built: {FIRST}"))
+        self.assertFalse((self.top / "called").exists())
+
     def test_says_why_a_server_ended(self):
         self.put("#!/bin/sh\necho 'ppq-serve: no free block' >&2\nexit 6\n")
         said = self.call("serve", "--load", "4K")[2].splitlines()
@@ -114,7 +140,8 @@ class Launcher(unittest.TestCase):
         self.program.unlink()
         self.put_rt()
         (self.here / "b.ppq").write_text("pop\npsh\n")
-        refused = {"run none.ppq": 11, "run b.ppq": 1, "sim s.ppq --until 5 --events 5": 13, "run s.ppq --heap 99": 2, "run s.ppq --memory 9": 7}
+        (self.here / "z.bin").write_bytes(bytes(16))
+        refused = {"sweep z.bin --nodes 5": 14, "run none.ppq": 11, "run b.ppq": 1, "sim s.ppq --until 5 --events 5": 13, "run s.ppq --heap 99": 2, "run s.ppq --memory 9": 7}
         for words, status in refused.items():
             for front in [], ["try"]:
                 ended, _, said = self.call(*front, *words.split())
@@ -161,7 +188,7 @@ class Launcher(unittest.TestCase):
         (self.here / "s.ppq").write_text("bulk b.bin\npop\n")
         self.assertEqual(self.call("try", *WORDS)[0], 0)
         here = self.here.resolve()
-        words = f"{self.top.resolve()}/crates/ppq try --data b.bin={here}/b.bin -- run {here}/s.ppq --device {here}/a {' '.join(WORDS[4:])}\n"
+        words = f"{self.top.resolve()}/crates/ppq try --seconds 300 --data b.bin={here}/b.bin -- run {here}/s.ppq --device {here}/a {' '.join(WORDS[4:])}\n"
         self.assertEqual((self.top / "called").read_text(), words)
 
     def test_says_why_a_try_ended(self):
@@ -169,6 +196,28 @@ class Launcher(unittest.TestCase):
         self.assertIn("ppq: why: its folder no is not there\n", self.call("try", *[it if it != "a" else "no/a" for it in WORDS])[2])
         self.put_rt(5)
         self.assertNotIn("why", self.call("try", *WORDS)[2])
+        self.put_rt(5, r"run=ended status=5 runners=1 races=unchecked proved=no\n")
+        self.assertIn(" proved=no\nppq: why: the device a is not there any more\n", self.call("try", *WORDS)[2])
+
+    def test_says_that_a_try_came_to_no_end(self):
+        self.put_rt(6, r"checked: no-answer: too late\nrun=no-answer proved=no\n")
+        status, printed, said = self.call("try", *WORDS)
+        self.assertEqual((status, printed), (124, ""))
+        self.assertRegex(said, r"too late\nrun=no-answer proved=no\nppq: the try did not come to an end \(.*\); this says nothing about your input\. Try again, or ./ppq build\n$")
+        self.put_rt(6, r"run=ended status=6 runners=1 proved=no\n")
+        self.assertEqual(self.call("try", *WORDS)[0], 6)
+
+    def test_tells_a_try_to_stop_only_once(self):
+        told = self.top / "told"
+        self.put_as_rt(f"trap 'echo told >> {told}' TERM\necho begun\nwhile [ ! -e {told} ]; do sleep 0.02; done\nfor _ in 1 2 3 4 5 6 7 8 9; do sleep 0.05; done\nexit 143\n")
+        settings = {"PATH": f"{self.top}:{os.environ['PATH']}"}
+        begun = subprocess.Popen([self.top / "ppq", "try", *WORDS], cwd=self.here, env=settings, stdout=subprocess.PIPE, stderr=subprocess.DEVNULL, text=True, start_new_session=True)
+        self.assertEqual(begun.stdout.readline(), "begun\n")
+        os.killpg(begun.pid, signal.SIGTERM)
+        while not told.exists():
+            time.sleep(0.01)
+        os.killpg(begun.pid, signal.SIGTERM)
+        self.assertEqual((begun.communicate()[0], begun.returncode, told.read_text()), ("", 143, "told\n"))
 
     def test_adds_why_the_program_ended(self):
         self.put("#!/bin/sh\necho 'ppq: line 2: bad line' >&2\nexit 1\n")

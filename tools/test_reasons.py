@@ -167,6 +167,8 @@ ARGUMENTS = [
     ("run s.ppq --device d --blocks 200 --workers 2 --block 2 --heap 1 --memory 268435457", "--memory 268435457 is out of its range"),
     ("run s.ppq --device d --blocks 200 --workers 2 --block 2 --heap 1 --memory-bytes 4294967297", "--memory-bytes 4294967297 is out of its range"),
     ("run s.ppq --device d --blocks 200 --workers 2 --block 2 --heap 1 --memory 32M", "--memory: '32M' is no number in decimal digits"),
+    ("run s.ppq --device d --blocks 200 --workers 2 --block 2 --heap 1 --memory 32M", "digits (`--memory-bytes 33554432`)"),
+    ("serve --device d --blocks 200 --workers 2 --block 2 --heap 1 --memory-bytes 3G", "--memory-bytes: '3G' is no number in decimal digits (`--memory-bytes 3221225472`)"),
     ("run s.ppq --device d --blocks 200 --workers +2 --block 2 --heap 1 --memory 372", "--workers: '+2' has a sign"),
     ("run s.ppq --device d --blocks 200 --workers 2 --block 2 --heap= --memory 372", "--heap: '' is no number"),
     ("run s.ppq --device d --blocks 000000000000000000200 --workers 2 --block 2 --heap 1 --memory 372", "has 21 digits"),
@@ -180,6 +182,9 @@ ARGUMENTS = [
     (f"sweep edges.bin {BOTH} --nodes 2", ""),
     (f"sweep edges.bin {BOTH}", "--nodes is missing: the nodes, 0 to 4294967296"),
     (f"sweep edges.bin {BOTH} --nodes 4294967297", "--nodes 4294967297 is out of its range"),
+    (f"sweep edges.bin {BOTH} --nodes 500M", "--nodes: '500M' is no number in decimal digits: write 500000000"),
+    (f"sweep edges.bin {BOTH} --nodes M", "--nodes: 'M' is no number in decimal digits"),
+    (f"sweep edges.bin {BOTH} --nodes=", "--nodes: '' is no number"),
     (f"sweep edges.bin {BOTH} --nodes 2 --form text", "'--form' is no option of `ppq sweep`"),
     (f"sweep {BOTH} --nodes 2", "EDGES is missing"),
 ]
@@ -302,13 +307,31 @@ class Reasons(Case):
         pathlib.Path("g.ppq").write_bytes(b"gen 7 4000000\n")
         self.assertIn("a device has at most 65536: --workers 2 --block 4096 --heap 1 ", self.after(6, words.format(9999)).replace("--blocks 2034 ", ""))
 
+    def test_of_budgets_of_servers(self):
+        words = "serve --device d --blocks 200 --workers 2 --block 2 --heap 1 --memory-bytes {}"
+        self.assertIn("--memory-bytes 5952 is the least", reasons.refusal_of(words.format(5951).split())[1])
+        self.assertIsNone(reasons.refusal_of(words.format(5952).split()))
+        self.assertRegex(self.after(7, words.format(5952)), "^--memory-bytes 5952 is below .*: --memory-bytes 8928 is the least.*, of triples$")
+        self.assertIsNone(self.after(7, words.format(8928)))
+
     def test_of_edges(self):
         words = f"sweep e.bin {BOTH.replace('400', '20800').replace('744', '21144')} --nodes 9"
-        for edge, part in (((5, 5), "edge 5001 leads from 5 to 5, and an edge leads to a greater node"), ((5, 9), "edge 5001 leads from 5 to 9, and with --nodes 9 the last node is 8")):
+        greater = "and an edge leads to a greater node"
+        for edge, part in (((5, 5), f"from 5 to 5, {greater}"), ((6, 5), f"from 6 to 5, {greater}; that need not be a cycle"), ((5, 9), "from 5 to 9, and with --nodes 9 the last node is 8"), ((2**63, 5), f"from {2**63} to 5, {greater}")):
             pathlib.Path("e.bin").write_bytes(EDGES * 5000 + reasons.struct.pack(">2Q", *edge) + bytes(16))
-            self.assertIn(part, self.after(14, words))
+            self.assertIn(f"edge 5001 leads {part}", self.after(14, words))
+            self.assertEqual(reasons.edge_refusal(words.split()), (14, self.after(14, words)))
             if PROGRAM.file:
                 self.assertEqual(PROGRAM.ended(words.split()), (14, "ppq: edge 5001 is bad\n"))
+
+    def test_of_edges_that_are_not_looked_at(self):
+        words = f"sweep two.bin {BOTH} --nodes 9"
+        self.assertEqual(reasons.edge_refusal(words.split())[0], 14)
+        for other in (words.replace("two.bin", "edges.bin"), words.replace("two.bin", "empty.bin"), words.replace("400", "0"), f"run s.ppq {SIZES}"):
+            self.assertIsNone(reasons.edge_refusal(other.split()))
+        with open("two.bin", "r+b") as file:
+            file.truncate(reasons.LONGEST_LOOK + 16)
+        self.assertIsNone(reasons.edge_refusal("sweep two.bin --device d --blocks 16000 --workers 1 --block 1024 --heap 1 --memory 999999 --nodes 9".split()))
 
     def test_of_the_system(self):
         words = f"run s.ppq {SIZES}"
@@ -321,7 +344,7 @@ class Reasons(Case):
         self.assertEqual([self.after(it, words) for it in (0, 1, 2, 3, 7, 11, 12, 13, 14, 99)], [None] * 10)
 
     def test_are_printed(self):
-        for words, status, part in ((["after", "1", "run", "s.ppq", *SIZES.split()], 0, ""), (["before", "run", "s.ppq"], 2, "ppq: why: --device is missing"), (["after", "6"], 0, ""), (["x"], 1, "Says why")):
+        for words, status, part in ((["after", "1", "run", "s.ppq", *SIZES.split()], 0, ""), (["before", "run", "s.ppq"], 2, "ppq: why: --device is missing"), (["before", "sweep", "two.bin", *BOTH.split(), "--nodes", "9"], 14, "edge 1 leads from 0 to 0"), (["after", "6"], 0, ""), (["x"], 1, "Says why")):
             ran = subprocess.run([sys.executable, HERE / "reasons.py", *words], capture_output=True, text=True)
             self.assertEqual(ran.returncode, status, ran.stderr)
             self.assertIn(part, ran.stderr)

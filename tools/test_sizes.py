@@ -81,7 +81,9 @@ class Chosen(unittest.TestCase):
 
     def test_says_what_does_not_do(self):
         self.assertIn("91642 blocks of 65536 records", Sizes(3 * 10**9, {}, 4).fault())
-        self.assertEqual(Sizes(4 * 10**6, {"memory": 1024}, 4).fault(), "the budget is 1024 records, and its fixed part 64106")
+        least = f"--memory 64106 (1.0 MB) is the least, and with --workers 1 {Sizes(4 * 10**6, {'memory': 1024}, 1).least()} (0.9 MB)"
+        self.assertEqual(Sizes(4 * 10**6, {"memory": 1024}, 4).fault(), f"the budget is 1024 records, and its fixed part 64106: {least}")
+        self.assertTrue(Sizes(500 * 10**6, {"memory": 2**22}, 1, 2).fault(24).endswith(": --memory 5697284 (136.7 MB) is the least"))
 
     def test_suits_a_slow_disk(self):
         self.assertEqual([(it.block, it.heap) for it in (Sizes(10**6, {}, 1, slow=True), Sizes(10**6, {}, 4, slow=True))], [(8192, 4), (8192, 6)])
@@ -116,6 +118,10 @@ class Words(unittest.TestCase):
     def filled(self, words):
         return " ".join(sizes.filled(words.split()))
 
+    def printed(self, words):
+        """Returns what the program did with these words."""
+        return subprocess.run([sys.executable, HERE / "sizes.py", *words.split()], capture_output=True, text=True)
+
     def test_of_scripts_are_filled(self):
         for script, added in FILLED.items():
             pathlib.Path("s.ppq").write_text(script)
@@ -125,11 +131,20 @@ class Words(unittest.TestCase):
         pathlib.Path("two.bin").write_bytes(bytes(48))
         agenda = "sim two.bin --until 5 --events 1 --block 2 --heap 1 --workers 2 --memory 372"
         self.assertEqual(self.filled(agenda), f"{agenda} --device ppq.device --blocks {sizes.room(3, 2, 2)}")
-        edges = "sweep two.bin --nodes 5 --block 2 --heap 1 --workers 2"
-        blocks = 2 * sizes.room(3, 2, 2)
-        self.assertEqual(self.filled(edges), f"{edges} --device ppq.device --blocks {blocks} --memory {4 * sizes.fixed(2, 2, 1, blocks // 2)}")
+        edges = "sweep two.bin --nodes 5 --block 2 --heap 1"
+        for given, added, workers in ((f"{edges} --workers 2", "", 2), (edges, " --workers 1", 1)):
+            blocks = 2 * sizes.room(3, workers, 2)
+            self.assertEqual(self.filled(given), f"{given} --device ppq.device --blocks {blocks}{added} --memory {4 * sizes.fixed(workers, 2, 1, blocks // 2)}")
         pathlib.Path("s.ppq").write_text("bulk two.bin")
         self.assertEqual(sizes.load_of_script(sizes.read_script("s.ppq")), 3)
+
+    def test_of_servers_are_filled(self):
+        """A budget in bytes is taken for triples, which its client may have."""
+        for budget in 2**22, 2**25, 2**32:
+            full = sizes.filled(["serve", "--memory-bytes", str(budget)], 10**6)
+            blocks, _, block, heap = (int(it) for it in full[-7::2])
+            self.assertLessEqual(5 * 24 * sizes.fixed(1, block, heap, blocks), 3 * budget)
+            self.assertLessEqual(sizes.room(10**6, 1, block), blocks)
 
     def test_stay_where_the_program_refuses_them_or_nothing_is_missing(self):
         pathlib.Path("s.ppq").write_text("pop\n")
@@ -138,11 +153,20 @@ class Words(unittest.TestCase):
             self.assertEqual(self.filled(words), words)
 
     def test_are_printed(self):
-        ran = subprocess.run([sys.executable, HERE / "sizes.py", "20M", "--workers", "4", "--memory", "32M"], capture_output=True, text=True)
+        ran = self.printed("20M --workers 4 --memory 32M")
         self.assertEqual(ran.stdout, "--device ppq.device --blocks 9854 --workers 4 --block 4096 --heap 8 --memory-bytes 33554432\n")
         self.assertIn("at most 646 MB", ran.stderr)
+        self.assertIn("ppq: --memory-bytes 33554432 is 33.6 MB, with 381 buffers for runs; the smallest --memory is 534142 (8.5 MB)\n", ran.stderr)
+        self.assertIn("argument --memory: 8G is above the largest budget, 4G\n", self.printed("20M --memory 8G").stderr)
+        self.assertRegex(self.printed("500M --queues 2 --memory 64M").stderr, r"^ppq: no: .*: --memory \d+ \(\d+\.\d MB\) is the least\n$")
+
+    def test_of_the_most_edges_are_printed(self):
+        self.assertIn("--blocks 65536 --workers 1 --block 65536", self.printed("1071251456 --queues 2").stdout)
+        self.assertEqual(self.printed("1071251457 --queues 2").stdout, "")
+
+    def test_are_refused_where_they_are_no_sizes(self):
         for words in ("", "x", "5 --heap 65", "5 --memory 1T", "5G", "5 --memory 9 --memory-bytes 9"):
-            self.assertNotEqual(subprocess.run([sys.executable, HERE / "sizes.py", *words.split()], capture_output=True).returncode, 0, words)
+            self.assertNotEqual(self.printed(words).returncode, 0, words)
 
 
 if __name__ == "__main__":
