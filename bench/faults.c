@@ -24,7 +24,7 @@
 #include <sys/syscall.h>
 #include <unistd.h>
 
-enum place { ELSEWHERE, DEVICE, OUTPUT, REPORT };
+enum place { ELSEWHERE, DEVICE, OUTPUT, REPORT, INPUT };
 
 struct notes {
     uint64_t calls, failed, place, offset;
@@ -95,6 +95,7 @@ static uint64_t place_of(int file) {
     struct stat one, other;
     if (file == STDOUT_FILENO) return OUTPUT;
     if (file == STDERR_FILENO) return REPORT;
+    if (file == STDIN_FILENO) return INPUT;
     int is_device = fstat(file, &one) == 0 && stat(device, &other) == 0 && one.st_dev == other.st_dev && one.st_ino == other.st_ino;
     return is_device ? DEVICE : ELSEWHERE;
 }
@@ -123,6 +124,8 @@ ssize_t write(int file, const void *buffer, size_t size) {
 ssize_t __write(int file, const void *buffer, size_t size) {
     return move("write", FROM, SYS_write, file, (char *)buffer, size, 0);
 }
+
+ssize_t read(int file, void *buffer, size_t size) { return move("read", FROM, SYS_read, file, buffer, size, 0); }
 
 ssize_t pread(int file, void *buffer, size_t size, off_t at) {
     return move("pread", FROM, SYS_pread64, file, buffer, size, at);

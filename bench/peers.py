@@ -6,6 +6,7 @@ import sys
 
 TOP = pathlib.Path(__file__).resolve().parent.parent
 PROGRAM = TOP / "crates" / "ppq" / "out" / "ppq"
+SERVER = TOP / "crates" / "ppq_serve" / "out" / "ppq_serve"
 BENCH = TOP / "bench"
 SEED = 7
 MILLION = 1_000_000
