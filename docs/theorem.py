@@ -1,12 +1,12 @@
 #!/usr/bin/env python3
-"""Prints the theorem as the sources have it: the contracts of the three commands, and each definition that a clause of them
+"""Prints the theorem as the sources have it: the contracts of the four commands, and each definition that a clause of them
 reaches, behind the first clause that does, in the order of use.
 
     docs/theorem.py           # compares docs/theorem.md with the sources; ends with 1 if they differ
     docs/theorem.py --into    # writes docs/theorem.md
 
 Definitions are those of `specs/`; types of `src/` and words of the kit do not count. Those of the grammar and of the arguments
-are left out, since laws say what they mean (`lines_mean`, `words_mean`).
+are left out, since laws say what they mean (`lines_mean`, `words_mean`), but for the sizes that arguments give.
 """
 import glob
 import os
@@ -16,12 +16,19 @@ import sys
 TOP = os.path.dirname(os.path.dirname(os.path.realpath(__file__)))
 PAGE = "docs/theorem.md"
 CALL = "crates/ppq_cli/src/top_call.rt"
-COMMANDS = {"run_words": CALL, "SimsWords": "crates/ppq_cli/specs/SimWords.antt", "SweepsWords": "crates/ppq_cli/specs/SweepWords.antt"}
+COMMANDS = {
+    "run_words": CALL,
+    "SimsWords": "crates/ppq_cli/specs/SimWords.antt",
+    "SweepsWords": "crates/ppq_cli/specs/SweepWords.antt",
+    "serve_words": "crates/ppq_serve_cli/src/top_call.rt",
+}
+CALLS = [it for it in COMMANDS.values() if it.endswith(".rt")]
 LAWFUL = ("ppq_script", "ppq_words")  # the crates of the grammar and of the arguments
+LAWLESS = ("sizes_at", "sizes_for", "half_sizes_for", "in_unit", "in_records")  # their words that no law speaks of
 
 HEAD = """# The theorem
 
-This page is made by `docs/theorem.py` from the sources, and `docs/check` compares both. It has the contract of `run_words`, and then for each of its clauses the definitions that it reaches and no clause before it did, in the order of use, with their comments; then the same of the records that are the contracts of `ppq sim` and `ppq sweep`. `docs/promises.md` says in words what each clause promises, what is assumed, and what the theorem does not say. Not printed are the definitions of the grammar (`crates/ppq_script/specs`) and of the arguments (`crates/ppq_words/specs`), which have laws above them (`lines_mean`, `words_mean`), types of `src/`, and words of the kit: among these `x.old` and `x.now` are a value before and after a call, `A ⊎ B` is "one of both", and `A × B` is "both".
+This page is made by `docs/theorem.py` from the sources, and `docs/check` compares both. It has the contract of `run_words`, and then for each of its clauses the definitions that it reaches and no clause before it did, in the order of use, with their comments; then the same of the records that are the contracts of `ppq sim` and `ppq sweep`, and of `serve_words`, the contract of `ppq-serve`. `docs/promises.md` says in words what each clause promises, what is assumed, and what the theorem does not say. Not printed are the definitions of the grammar (`crates/ppq_script/specs`) and of the arguments (`crates/ppq_words/specs`), which have laws above them (`lines_mean`, `words_mean`), but for the sizes that arguments give; types of `src/`; and words of the kit. `Reading`, also called `Arguments`, is what the arguments say, and `Reading R` is a script as it was read. Among the words of the kit `x.old` and `x.now` are a value before and after a call, `A ⊎ B` is "one of both", and `A × B` is "both".
 """
 
 DEFINED = re.compile(r"\s*(?:abbrev pub|unfoldable pub|pub record|pub data) ([\w-]+)")
@@ -69,7 +76,7 @@ class Definitions:
 
     def __init__(self):
         self.paragraphs, self.moved = {}, {}
-        self.imports = {place_of_file(CALL): imports_of(text_of(CALL))}
+        self.imports = {place_of_file(it): imports_of(text_of(it)) for it in CALLS}
         for file in sorted(glob.glob("crates/*/specs/*.antt", root_dir=TOP)):
             place, text = place_of_file(file), text_of(file)
             self.imports[place] = imports_of(text)
@@ -101,7 +108,7 @@ def contract_of(name):
     """Returns a command's contract as it stands, and each of its clauses by its name."""
     file = COMMANDS[name]
     text = text_of(file)
-    if file == CALL:
+    if file in CALLS:
         contract = f"pub fn {name}<" + text.partition(f"pub fn {name}<")[2].partition("\n{\n")[0]
         clauses = re.findall(r"^ *(?:requires|ensures) (\w+) (.*)", contract, re.M)
     else:
@@ -120,7 +127,7 @@ def printed(definitions, names):
     """Returns the lines that print definitions, by their files, each paragraph once."""
     files = {}
     for it in names:
-        if it[0] not in LAWFUL:
+        if it[0] not in LAWFUL or it[2] in LAWLESS:
             files.setdefault(file_of(it), {})[definitions.paragraphs[it]] = None
     for file, paragraphs in files.items():
         yield from [f"`{file}`:", "", "```text", "\n\n".join(paragraphs), "```", ""]
@@ -131,7 +138,7 @@ def page():
     definitions, known, lines = Definitions(), set(), [HEAD]
     for command, file in COMMANDS.items():
         contract, clauses = contract_of(command)
-        lines += [f"## `{command}`", "", f"`{file}`:", "", f"```{'rust' if file == CALL else 'text'}", contract, "```", ""]
+        lines += [f"## `{command}`", "", f"`{file}`:", "", f"```{'rust' if file in CALLS else 'text'}", contract, "```", ""]
         for name, clause in clauses.items():
             reached = definitions.reached(clause, place_of_file(file), known)
             known |= {*reached}

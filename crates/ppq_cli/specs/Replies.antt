@@ -81,7 +81,7 @@ IsTooSmall words r need = IsBelowNeed words.WIDTH r.given need
 abbrev pub OfGood : {R : Type 0} → Words R → Option Files → (Reply → Type 0) → Arguments → List ℕ → (Reading R → Type 0) → Type 0
 OfGood {R} words told replied r bytes P = (script : Reading R) × (IsScript words told replied bytes r.given.numbers.workers script × P script)
 
--- and the budget is no less than its fixed part
+-- the same, and the budget is no less than its fixed part
 abbrev pub OfRun : {R : Type 0} → Words R → Option Files → (Reply → Type 0) → Arguments → List ℕ → (Reading R → Type 0) → Type 0
 OfRun words told replied r bytes P = (fixed_of (sizes_at words.WIDTH r) ≤ (sizes_at words.WIDTH r).memory) × OfGood words told replied r bytes P
 

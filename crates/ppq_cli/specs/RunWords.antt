@@ -67,7 +67,7 @@ OfBytes told type r bytes P = IfSome told (λ files. P type r (script_given type
 abbrev pub OfFile : Option Files → Reading → About → Type 0
 OfFile told r P = IfSome told (λ files. IfSome (files r.script) (λ bytes. OfBytes (Some files) (type_of bytes) r bytes P))
 
--- the same of the script that the words name
+-- the fact holds of the script that the words name, where they have a reading, and the library tells and has it
 abbrev pub OfScript : {L : Type 0} → (L → Option Files) → L → List (String Global) → About → Type 0
 OfScript told library words P = OfWords words (λ r. OfFile (told library) r P)
 
@@ -144,18 +144,21 @@ AreTransfersRight words told library replied later shown ended = OfWords words (
 
 -- When each outcome comes.
 
--- the answer that refuses a script before its device is made, and none to another: first that it is not there, then that it is too
--- long, then its first line that is bad or names a file that cannot be used, then that the budget is too small
+-- the answer that refuses a script of which nothing else is wrong, and none to another: that the budget is too small
 abbrev pub refusal_of_budget : {R : Type 0} → Words R → Reading → Option End
 refusal_of_budget words r = refusal_for words.WIDTH r.given
 
+-- before that, its first bad line
 abbrev pub refusal_of_bad : {R : Type 0} → Words R → Option ℕ → Reading → Option End
 refusal_of_bad words None r = refusal_of_budget words r
 refusal_of_bad words (Some line) r = Some (BadLine line)
 
+-- by its bytes: the line is bad, or names a file that cannot be used
 abbrev pub refusal_of_bytes : {R : Type 0} → Words R → Files → List ℕ → Reading → Option End
 refusal_of_bytes words files bytes r = refusal_of_bad words (first_bad_by (is_usable words files) 1 (script_kinds words bytes r.given.numbers.workers)) r
 
+-- The answer that refuses a script before its device is made, and none to another: first that it is not there, then that it is too
+-- long, then its first line that is bad or names a file that cannot be used, then that the budget is too small
 abbrev pub refusal_of_file : Files → Option (List ℕ) → Reading → Option End
 refusal_of_file files None r = Some NoScript
 refusal_of_file files (Some bytes) r = if nat_lt 1048576 (length bytes) then Some ScriptTooLong else refusal_of_bytes (type_of bytes).words files bytes r

@@ -94,7 +94,7 @@ sim_refusal_of (Some r) files = sim_refusal_of_file r (files r.agenda)
 abbrev pub OfSize : (Reply → Type 0) → SimReading → (ℕ → Type 0) → Type 0
 OfSize replied r P = (size : ℕ) × (replied (OfLength r.agenda (Some size)) × (IsRecordLength 24 size × P size))
 
--- and the budget is no less than its fixed part
+-- the same, and the budget is no less than its fixed part
 abbrev pub OfTried : (Reply → Type 0) → SimReading → (ℕ → Type 0) → Type 0
 OfTried replied r P = (fixed_of (sim_sizes r) ≤ (sim_sizes r).memory) × OfSize replied r P
 

@@ -89,7 +89,7 @@ IsSweepAnswer refusal end = IsAnswer refusal end ⊎ ((refusal ≡ None) × ((at
 abbrev pub OfSize : (Reply → Type 0) → SweepReading → (ℕ → Type 0) → Type 0
 OfSize replied r P = (size : ℕ) × (replied (OfLength r.edges (Some size)) × (IsRecordLength 16 size × P size))
 
--- and the budget is no less than the fixed parts of both queues
+-- the same, and the budget is no less than the fixed parts of both queues
 abbrev pub OfTried : (Reply → Type 0) → SweepReading → (ℕ → Type 0) → Type 0
 OfTried replied r P = (fixed_of (sweep_sizes r) ≤ (sweep_sizes r).memory) × OfSize replied r P
 
