@@ -73,16 +73,6 @@ impl MemFile {
     }
 }
 
-// Copies bytes from a place on, as many as fit, and returns how many.
-fn copied(bytes: &[u8], at: usize, most: usize, into: &mut [u8]) -> usize {
-    let mut count = 0;
-    for (byte, from) in into.iter_mut().zip(bytes.iter().skip(at).take(most)) {
-        *byte = *from;
-        count += 1;
-    }
-    count
-}
-
 impl RawFile for MemFile {
     ghost holds = { λ _ _. ⊥ };
 
@@ -112,7 +102,10 @@ impl RawFile for MemFile {
             return Err(Failed);
         }
         let at = usize::try_from(at).unwrap_or(usize::MAX);
-        Ok(copied(&self.bytes, at, self.most, into))
+        let begin = at.min(self.bytes.len());
+        let count = into.len().min(self.most).min(self.bytes.len() - begin);
+        into[..count].copy_from_slice(&self.bytes[begin..begin + count]);
+        Ok(count)
     }
 
     fn write_at(&mut self, at: u64, bytes: &[u8]) -> Result<usize, Failed> {
@@ -126,7 +119,10 @@ impl RawFile for MemFile {
         if self.bytes.len() < end && self.bytes.resize(end, 0).is_err() {
             return Err(Failed);
         }
-        Ok(copied(bytes, 0, count, &mut self.bytes[at..end]))
+        if at <= end && end <= self.bytes.len() && end - at == count {
+            self.bytes[at..end].copy_from_slice(&bytes[..count]);
+        }
+        Ok(count)
     }
 
     fn share(&self) -> Result<Self, AllocError> {
