@@ -16,28 +16,20 @@
 //!   then all are removed by bulk pops;
 //! - `below`: they are added so; in a limit session those with keys below 2^63 are removed, while threads add for
 //!   each of them one whose key is greater by 2^63; and then all are removed, one by one.
-//!
-//! With the argument `lying` it executes `gen 7 4000000` and `drain 4000000` over a device in memory, and over
-//! one that gives back other bytes than it was given, and prints how many nanoseconds each took. With the
-//! argument `sum` it prints how many picoseconds the sums of a record take, at its write and its read together,
-//! and what they add up to. `bench/lying` runs both.
 #![tactic(auto)]
 
 mod device;
 mod held;
 mod load;
-mod lying;
 mod merges;
 mod removed;
 mod sessions;
-mod sums;
 mod task;
 mod watch;
 
 use device::Shape;
 use held::hold;
 use load::{Load, out_of_memory};
-use lying::honest_and_lying;
 use merges::{as_sorted, picoseconds};
 use ppq_device::Host;
 use removed::Removed;
@@ -47,7 +39,6 @@ use std::io::ErrorKind;
 use std::rt::Clock;
 use std::thread::Threads;
 use std::{env, io};
-use sums::picoseconds_of_sums;
 use task::Task;
 use watch::Watch;
 
@@ -257,30 +248,11 @@ where
     }
 }
 
-// Prints how many nanoseconds a script takes over a device that keeps what it is given, and over one that does not.
-fn print_lying<H: Host + Clock>(rt: &H, alloc: Global) -> io::Result<()>
-where
-    H::Dir: Send,
-{
-    let (honest, lying) = honest_and_lying(rt, alloc)?;
-    println!(rt; "{honest} {lying}")?;
-    Ok(())
-}
-
-// Prints how many picoseconds the sums of a record take, and what all of them add up to.
-fn print_sums<H: Clock + Print>(rt: &H, alloc: Global) -> io::Result<()> {
-    let (took, all) = picoseconds_of_sums(rt, alloc)?;
-    println!(rt; "{took} {all}")?;
-    Ok(())
-}
-
 fn main(rt: HostRuntime) -> io::Result<()> {
     let words = words_of(&rt)?;
     match words.first() {
         None => check(&rt, rt.alloc()),
         Some(word) if word.as_str() == "merge" => time(&rt, rt.alloc()),
-        Some(word) if word.as_str() == "lying" => print_lying(&rt, rt.alloc()),
-        Some(word) if word.as_str() == "sum" => print_sums(&rt, rt.alloc()),
         Some(_) => execute_as_said(&rt, rt.alloc(), &words),
     }
 }

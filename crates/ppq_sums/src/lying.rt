@@ -1,7 +1,7 @@
 //! A script over a device in memory that gives back other bytes than it was given, and over one that does not.
 ghost use Rattle.std.specs.Prelude.{◌≡◌, ◌<◌, ◌^◌, IfOk};
 
-use crate::load::out_of_memory;
+use crate::out_of_memory;
 use ppq_cli::{End, run_words};
 use ppq_outside::{Host, Library, MemLibrary, MemRack, MemSink, OpenGate, Rack};
 use std::alloc::Global;
@@ -10,8 +10,11 @@ use std::io::ErrorKind;
 use std::rt::Clock;
 use std::time::Instant;
 
-// The script: records are generated, and removed without being printed.
-const SCRIPT: &[u8] = b"gen 7 4000000\ndrain 4000000\n";
+// The script that is timed: records are generated, and removed without being printed.
+pub(crate) const LONG: &[u8] = b"gen 7 4000000\ndrain 4000000\n";
+
+// One that is soon done.
+pub(crate) const SHORT: &[u8] = b"gen 7 200000\ndrain 200000\n";
 
 // The arguments: a budget of 16 MiB.
 const WORDS: [&str; 14] = [
@@ -43,25 +46,30 @@ fn words(alloc: Global) -> io::Result<Vec<String>> {
     Ok(words)
 }
 
-// A library with the script.
-fn library(alloc: Global) -> io::Result<MemLibrary>
+// A library with a script.
+fn library(alloc: Global, script: &[u8]) -> io::Result<MemLibrary>
     ensures { IfOk result (λ made. ⟦<MemLibrary as Library>⟧.faults made ≡ 0) }
 {
     let mut library = MemLibrary::new(alloc);
-    match library.add(alloc, "s", SCRIPT) {
+    match library.add(alloc, "s", script) {
         Ok(()) => Ok(library),
         Err(_) => Err(out_of_memory()),
     }
 }
 
-// How long the script takes over a device, in nanoseconds.
-fn nanoseconds<H: Host + Clock>(rt: &H, alloc: Global, rack: &mut MemRack) -> io::Result<u64>
+// How long a script takes over a device, in nanoseconds.
+fn nanoseconds<H: Host + Clock>(
+    rt: &H,
+    alloc: Global,
+    script: &[u8],
+    rack: &mut MemRack,
+) -> io::Result<u64>
 where
     H::Dir: Send,
     requires { ⟦<MemRack as Rack>⟧.faults rack.old < 2 ^ 63 }
 {
     let words = words(alloc)?;
-    let mut library = library(alloc)?;
+    let mut library = library(alloc, script)?;
     let mut out = MemSink::new(alloc, ROOM).map_err(|_| out_of_memory())?;
     let start = Instant::now(rt)?;
     let ended = run_words(rt, alloc, &words, &mut library, rack, &OpenGate, &mut out);
@@ -72,13 +80,17 @@ where
     }
 }
 
-// How long the script takes over a device that keeps what it is given, and over one that does not, each without
+// How long a script takes over a device that keeps what it is given, and over one that does not, each without
 // sums, in nanoseconds.
-pub(crate) fn honest_and_lying<H: Host + Clock>(rt: &H, alloc: Global) -> io::Result<(u64, u64)>
+pub(crate) fn honest_and_lying<H: Host + Clock>(
+    rt: &H,
+    alloc: Global,
+    script: &[u8],
+) -> io::Result<(u64, u64)>
 where
     H::Dir: Send,
 {
-    let honest = nanoseconds(rt, alloc, &mut MemRack::new())?;
-    let lying = nanoseconds(rt, alloc, &mut MemRack::forging(1))?;
+    let honest = nanoseconds(rt, alloc, script, &mut MemRack::new())?;
+    let lying = nanoseconds(rt, alloc, script, &mut MemRack::forging(1))?;
     Ok((honest, lying))
 }
