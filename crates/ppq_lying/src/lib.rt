@@ -11,3 +11,4 @@ mod lying_slot;
 pub use lie::Lie;
 pub use lying_rack::LyingRack;
 pub use lying_slot::LyingSlot;
+pub use ppq_checked::Checked;
