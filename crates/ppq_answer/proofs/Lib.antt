@@ -1,3 +1,4 @@
+pub use Rattle.ppq_engine.proofs as ppq_engine
 pub mod Asked
 pub mod Concluding
 pub mod Ended

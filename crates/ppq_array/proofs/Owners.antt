@@ -3,20 +3,20 @@ use Rattle.std.proofs.Common.{◌≡◌, ℕ, suc, ◌*◌, List, ◌∷◌, len
 use Rattle.std.proofs.lemmas.List.Elements.{All-tail}
 use Rattle.ppq_block.specs.Block.{Block}
 use Rattle.ppq_outside.specs.Shown.{Shown}
-use Rattle.ppq_array.specs.Owner.{IsOwner, HasSize, HasBlock}
+use Rattle.ppq_array.specs.Owner.{IsOwner, HasSlot, HasBlock}
 use Rattle.ppq_array.specs.declared.berth.DeviceBlock.{DeviceBlock}
 
 module _ {S R : Type 0} (shown : S → Shown) (width block : ℕ) where
   pub IsOwner-slot :
       (slots : List (DeviceBlock S R)) (all_slots : ℕ) (buffers : List (Block R)) (all_buffers : ℕ) → IsOwner shown width block slots all_slots buffers all_buffers
-      → (b : DeviceBlock S R) (rest : List (DeviceBlock S R)) → slots ≡ b ∷ rest → IsOwner shown width block rest all_slots buffers all_buffers × ((shown b.slot).size ≡ block * width)
+      → (b : DeviceBlock S R) (rest : List (DeviceBlock S R)) → slots ≡ b ∷ rest → IsOwner shown width block rest all_slots buffers all_buffers × HasSlot shown (block * width) b
   IsOwner-slot slots all_slots buffers all_buffers is b rest e =
       let long : length slots ≡ suc (length rest) = ap length e in
-      let sizes : All (HasSize shown (block * width)) (b ∷ rest) = subst (All (HasSize shown (block * width))) e is.sizes in (
+      let sizes : All (HasSlot shown (block * width)) (b ∷ rest) = subst (All (HasSlot shown (block * width))) e is.sizes in (
         record {
           slots_fit = omega (arith, long, is.slots_fit);
           few_slots = is.few_slots;
-          sizes = All-tail (HasSize shown (block * width)) b rest sizes;
+          sizes = All-tail (HasSlot shown (block * width)) b rest sizes;
           buffers_fit = is.buffers_fit;
           few_buffers = is.few_buffers;
           blocks = is.blocks;

@@ -4,6 +4,7 @@ use Rattle.ppq_block.specs.ppq_record.Bag.{first_of}
 use Rattle.ppq_block.specs.Block.{Block}
 use Rattle.ppq_block.specs.Told.{records_told}
 use Rattle.ppq_outside.specs.Shown.{Shown, Tells}
+use Rattle.ppq_outside.specs.Told.{next_count}
 use Rattle.ppq_array.specs.Run.{Run, items_of}
 use Rattle.ppq_array.specs.declared.berth.DeviceBlock.{DeviceBlock}
 
@@ -64,9 +65,10 @@ module _ {S R : Type 0} where
     FirstTells (b ∷ bs) = Tells (shown b.slot)
 
     -- A block has a record and no more than fit in its slot; its label has its first record, which is the first that the slot holds, where
-    -- that tells
+    -- that tells. Read once more, the slot still is read no more often than it was written
     pub record IsLabelled (b : DeviceBlock S R) : Type 0 where
       pub some : 1 ≤ b.count
       pub fits : b.count * width ≤ (shown b.slot).size
       pub labelled : IsSome b.minimum
+      pub unread : next_count (shown b.slot).reads ≤ (shown b.slot).writes
       pub first : Tells (shown b.slot) → b.minimum ≡ first_of (block_items b)

@@ -3,7 +3,7 @@ use Rattle.std.specs.Prelude.{ℕ, ◌≤◌, List, length, flat_map, sum_by, Al
 use Rattle.ppq_outside.specs.Shown.{Shown}
 use Rattle.ppq_array.specs.Run.{Run, items_of, buffers_of}
 use Rattle.ppq_array.specs.External.{External}
-use Rattle.ppq_array.specs.Owner.{slots_shown, HasSize, HasBlock}
+use Rattle.ppq_array.specs.Owner.{slots_shown, HasSlot, HasBlock}
 use Rattle.ppq_array.specs.Supply.{Stock}
 
 module _ {R : Type 0} where
@@ -28,9 +28,9 @@ module _ {S R : Type 0} where
   abbrev pub external_buffers : List (External S R) → ℕ
   external_buffers arrays = sum_by (λ a. length (buffers_of a.loaded)) arrays
 
-  -- the slots of a run have so many bytes
-  abbrev pub ArrayHasSize : (S → Shown) → ℕ → External S R → Type 0
-  ArrayHasSize shown bytes a = All (HasSize shown bytes) a.stored
+  -- so do the slots of all stored blocks of a run, each read no more often than written
+  abbrev pub HasSlots : (S → Shown) → ℕ → External S R → Type 0
+  HasSlots shown bytes a = All (HasSlot shown bytes) a.stored
 
   -- a supply can take back every slot of these runs, and every buffer of those in buffers
   pub record CanTakeBack (shown : S → Shown) (stock : Stock) (internal : List (Run R)) (external : List (External S R)) : Type 0 where

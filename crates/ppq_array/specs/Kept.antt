@@ -1,5 +1,5 @@
 -- Slots and buffers that move between a supply, runs and lanes: none is lost or made, and no count of a slot falls.
-use Rattle.std.specs.Prelude.{◌≡◌, ℕ, ◌+◌, ◌<◌, ◌≤◌, ◌==◌, cond, List, ◌++◌, length, sum_by}
+use Rattle.std.specs.Prelude.{◌≡◌, ℕ, ◌+◌, ◌-◌, ◌<◌, ◌≤◌, ◌==◌, cond, List, ◌++◌, length, sum_by}
 use Rattle.ppq_outside.specs.Shown.{Shown}
 use Rattle.ppq_array.specs.Supply.{Stock}
 
@@ -20,6 +20,18 @@ writes_at number slots = sum_by (weight_at (λ s. s.writes) number) slots
 
 abbrev pub reads_at : ℕ → List Shown → ℕ
 reads_at number slots = sum_by (weight_at (λ s. s.reads) number) slots
+
+-- the bytes of the slots with this number, added up
+abbrev pub sizes_at : ℕ → List Shown → ℕ
+sizes_at number slots = sum_by (weight_at (λ s. s.size) number) slots
+
+-- how many more times a slot was read than written
+abbrev pub overread : Shown → ℕ
+overread s = s.reads - s.writes
+
+-- the same of each of these slots, added up
+abbrev pub all_overreads : List Shown → ℕ
+all_overreads slots = sum_by overread slots
 
 -- all failed calls of these slots
 abbrev pub all_faults : List Shown → ℕ
@@ -46,13 +58,16 @@ SameSums before now = (f : Shown → ℕ) → sum_by f before ≡ sum_by f now
 abbrev pub AreQuiet : List Shown → List Shown → Type 0
 AreQuiet before now = all_faults now ≡ all_faults before
 
--- the same slots, each once, told by their numbers, in any order; and no count of a slot fell
+-- The same slots, each once, told by their numbers, in any order, each with as many bytes; no count of a slot fell, and no read came that was
+-- one more than the writes of its slot
 pub record SameSlots (before now : List Shown) : Type 0 where
   pub length : length now ≡ length before
   pub each_once : (number : ℕ) → times_of number now ≡ times_of number before
   pub faults : (number : ℕ) → faults_at number before ≤ faults_at number now
   pub writes : (number : ℕ) → writes_at number before ≤ writes_at number now
   pub reads : (number : ℕ) → reads_at number before ≤ reads_at number now
+  pub sizes : (number : ℕ) → sizes_at number now ≡ sizes_at number before
+  pub overreads : all_overreads now ≤ all_overreads before
 
 -- what runs and lanes hold beside a supply: their slots, and how many buffers
 pub record Held : Type 0 where

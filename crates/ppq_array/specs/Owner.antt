@@ -2,7 +2,7 @@
 use Rattle.std.specs.Prelude.{◌≡◌, ℕ, ◌+◌, ◌-◌, ◌*◌, ◌<◌, ◌≤◌, ◌^◌, List, [], length, map, All}
 use Rattle.ppq_block.specs.Block.{Block}
 use Rattle.ppq_outside.specs.Shown.{Shown}
-use Rattle.ppq_array.specs.Supply.{Stock}
+use Rattle.ppq_array.specs.Supply.{Stock, IsSlot}
 use Rattle.ppq_array.specs.declared.berth.DeviceBlock.{DeviceBlock}
 
 -- the buffer can hold so many records
@@ -14,9 +14,9 @@ module _ {S R : Type 0} where
   abbrev pub slots_shown : (S → Shown) → List (DeviceBlock S R) → List Shown
   slots_shown shown blocks = map (λ b. shown b.slot) blocks
 
-  -- the slot of the block has so many bytes
-  abbrev pub HasSize : (S → Shown) → ℕ → DeviceBlock S R → Type 0
-  HasSize shown bytes b = (shown b.slot).size ≡ bytes
+  -- the slot of the block has so many bytes, and was read no more often than it was written
+  abbrev pub HasSlot : (S → Shown) → ℕ → DeviceBlock S R → Type 0
+  HasSlot shown bytes b = IsSlot bytes (shown b.slot)
 
   -- what an owner's lists show: free slots, of so many, and idle buffers, of so many
   abbrev pub owner_stock : (S → Shown) → ℕ → List (DeviceBlock S R) → ℕ → List (Block R) → ℕ → ℕ → ℕ → ℕ → Stock
@@ -37,7 +37,7 @@ module _ {S R : Type 0} where
   pub record IsOwner (shown : S → Shown) (width block : ℕ) (slots : List (DeviceBlock S R)) (all_slots : ℕ) (buffers : List (Block R)) (all_buffers : ℕ) : Type 0 where
     pub slots_fit : length slots ≤ all_slots
     pub few_slots : all_slots < 2 ^ 32 - 1
-    pub sizes : All (HasSize shown (block * width)) slots
+    pub sizes : All (HasSlot shown (block * width)) slots
     pub buffers_fit : length buffers ≤ all_buffers
     pub few_buffers : all_buffers < 2 ^ 32 - 1
     pub blocks : All (HasBlock block) buffers

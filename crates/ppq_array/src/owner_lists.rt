@@ -1,6 +1,7 @@
 //! The free slots and idle buffers of one owner.
-ghost use Rattle.std.specs.Prelude.{◌≡◌, ◌-◌, ◌<◌, ◌^◌, [], length};
+ghost use Rattle.std.specs.Prelude.{◌≡◌, ◌-◌, ◌*◌, ◌<◌, ◌^◌, [], length, All};
 ghost use Rattle.ppq_array.specs.Owner.{new_owner, owner_home};
+ghost use Rattle.ppq_array.specs.Supply.{IsSlot};
 
 use crate::berth::Berth;
 use crate::berth_list::BerthList;
@@ -70,6 +71,7 @@ impl<S: Slot, R: Record> OwnerLists<S, R> {
     pub fn free_slots(&self) -> u32
         ensures free { result ≡ length self.now.kept }
         ensures no_row { self.now.drawn ≡ [] }
+        ensures slots { All (IsSlot (self.now.block * R.WIDTH)) self.now.kept }
     {
         self.slots.len()
     }

@@ -33,7 +33,6 @@ use Rattle.ppq_cli.proofs.Ends.{unread_not_run, refused_answer, refused_refusal,
 use Rattle.ppq_cli.proofs.Extent.{lengths_asked, commands_asked}
 use Rattle.ppq_cli.proofs.Outside.{blockless_outside, later_outside}
 use Rattle.ppq_cli.proofs.Given.{script_remembered}
-use Rattle.ppq_cli.proofs.Transfers.{no_slots}
 
 -- a refusal names no device and no sink
 not_rack : (fault : CheckFault) → check_end fault ≡ NoDevice → ⊥
@@ -89,7 +88,7 @@ module _ {R L K O S : Type 0} (words : Words R) (library : LibraryShows L) (rack
         ran = inl (record { maybe = not_run; same = refl });
         part = λ t. nothing_part told words sink.told out r bytes;
         nothing = inr refl;
-        transfers = inl (no_slots shown ended.blocks.items none);
+        transfers = inl (ap (map shown) none);
         answer = subst A (sym is) (refused_answer words told (library.replied new) r bytes fault refused);
         refused = subst Q (sym is) (refused_refusal words told (library.replied new) r bytes fault refused);
         asks = inl ((fault, is), lengths_asked (library.replied old) (library.replied new) r keeps.asks);
@@ -115,7 +114,7 @@ module _ {R L K O S : Type 0} (words : Words R) (library : LibraryShows L) (rack
       → RepliesOnly (library.replied old) (library.replied mid) (IsKeptLength script) → library.faults mid ≡ library.faults old
       → RunWrites words (rack.tells old_rack) (library.told mid) (sink.told old_out) (sink.told new_out) r script (map shown ended.blocks.items) ended.end
       → OutsideKept Rose library rack sink shown (Some r) device_named blocks_given mid new old_rack new_rack old_out new_out ended
-      → TransfersWithin (sizes_at words.WIDTH r) (work_of words (sizes_at words.WIDTH r) (command_list script)) (map shown ended.blocks.items)
+      → TransfersWithin (sizes_at words.WIDTH r) words.WIDTH (work_of words (sizes_at words.WIDTH r) (command_list script)) (map shown ended.blocks.items)
       → RepliesOnly (library.replied mid) (library.replied new) (IsReadInScript script)
       → RunEnds words (library.told mid) (library.replied new) r script ended.end
       → RunsBytes (typed words) library rack sink shown r bytes old new old_rack new_rack old_out new_out ended

@@ -1,6 +1,7 @@
 -- How the end of a run follows from those of its parts: of loading the script, and of running it over a device.
 use Rattle.std.proofs.Common.{◌≡◌, ℕ, ◌<◌, ◌≤◌, List, [], length, Option, Some, None, refl, sym, ap, ◌∙◌, subst, arith, inl, inr}
 use Rattle.std.specs.Prelude.{◌⊎◌, Bool, true, false, if◌then◌else◌, nat_lt, IfSome, MatchOption, map}
+use Rattle.std.proofs.lemmas.List.Elements.{All-nil}
 use Rattle.std.proofs.lemmas.List.Sorted.{IsPermutation-refl}
 use Rattle.std.proofs.lemmas.Bool.{ltb-true, ltb-false, le-ltb}
 use Rattle.ppq_files.specs.Whole.{WholeFaultAfter}
@@ -35,7 +36,7 @@ use Rattle.ppq_cli.specs.Load.{load_end, check_end, script_kinds}
 use Rattle.ppq_cli.specs.RunWords.{refusal_of_budget, refusal_of_bad, refusal_of_bytes, refusal_of_file, script_commands, script_given, IsTried, IsGivenUp, IsAnswer, IsTriedOrRefusal, About, Measure, OfBytes, OfFile, IsTooLarge, EndsWell}
 use Rattle.ppq_cli.specs.Outside.{MayWrite}
 use Rattle.ppq_cli.specs.RunOver.{RunWrites}
-use Rattle.ppq_cli.specs.Device.{IsSurelyRun, HasAllBlocks, AreBlocks}
+use Rattle.ppq_cli.specs.Device.{IsSurelyRun, HasAllBlocks, DeviceShape, IsBlock, AreBlocks}
 use Rattle.ppq_cli.specs.Replies.{Files, IsScript, IsRefused, OfGood, RefusalOf, RunOf, WroteNothing, HasRunToFile, HasRunToLoad, FaultToFile}
 use Rattle.ppq_cli.specs.Types.{typed, type_of}
 
@@ -205,10 +206,10 @@ unloaded_stays before now whole.TooLong end is counts read = counts
 unloaded_stays before now (whole.Ended said got) end is counts read = counts
 
 -- a script that was not run has no blocks
-pub no_blocks : (most : ℕ) (end : End) (slots : List Shown) → (HasAllBlocks end → ⊥) → slots ≡ [] → AreBlocks most end slots
-no_blocks most end slots not_run none =
-    let P : List Shown → Type 0 = λ s. AreBlocks most end s in
-    subst P (sym none) (record { numbers = IsPermutation-refl []; most = omega arith; all = λ run. absurd (not_run run); all_or_none = λ run. inr refl; none = λ refused. refl })
+pub no_blocks : (shape : DeviceShape) (end : End) (slots : List Shown) → (HasAllBlocks end → ⊥) → slots ≡ [] → AreBlocks shape end slots
+no_blocks shape end slots not_run none =
+    let P : List Shown → Type 0 = λ s. AreBlocks shape end s in
+    subst P (sym none) (record { numbers = IsPermutation-refl []; each = All-nil (IsBlock shape.IsSize); most = omega arith; all = λ run. absurd (not_run run); all_or_none = λ run. inr refl; none = λ refused. refl })
 
 -- a script that was read keeps the lengths of its files
 pub keeps :

@@ -1,5 +1,5 @@
 -- A device that was made, and one that was not: what that says of the end of a run and of the outside.
-use Rattle.std.proofs.Common.{◌≡◌, inl, inr, ℕ, zero, suc, ◌<◌, ◌≤◌, List, map, length, Option, Some, None, refl, sym, ◌∙◌, subst, arith}
+use Rattle.std.proofs.Common.{◌≡◌, inl, inr, ℕ, zero, suc, ◌*◌, ◌<◌, ◌≤◌, List, map, length, Option, Some, None, refl, sym, ◌∙◌, subst, arith}
 use Rattle.std.specs.Prelude.{◌⊎◌, Bool, true, false, if◌then◌else◌, nat_lt, MatchOption, All}
 use Rattle.std.specs.List.{range_with_len}
 use Rattle.std.specs.List.Sorted.{IsPermutation}
@@ -14,14 +14,17 @@ use Rattle.ppq_words.specs.ppq_outside.Shown.{Shown}
 use Rattle.ppq_words.specs.ppq_outside.Told.{Remembers, Rose}
 use Rattle.ppq_words.specs.ppq_budget.Sizes.{Numbers, fixed_of}
 use Rattle.ppq_jobs.specs.ppq_engine.ppq_array.Kept.{HasFailed, SameSlots}
+use Rattle.ppq_jobs.specs.ppq_engine.ppq_array.Supply.{IsSlot}
+use Rattle.ppq_jobs.specs.ppq_engine.ppq_queue.Holding.{IsNewSlot}
 use Rattle.ppq_jobs.specs.ppq_engine.Ends.{class_of, BeganCommands, BeganOrRefused, budget_refusal}
 use Rattle.ppq_jobs.specs.ppq_engine.declared.end.End.{End}
 use Rattle.ppq_jobs.specs.ppq_engine.declared.end.End.TheVariants.{Done, ReadFault, WriteFault, DeviceFault, NoFreeBlock, BudgetTooSmall, Memory, NoDevice, BadEdge}
 use Rattle.ppq_jobs.specs.ppq_engine.declared.end.Ended.{Ended}
+use Rattle.ppq_jobs.proofs.ppq_engine.Returned.{blocks_back, new_slots_are}
 use Rattle.ppq_cli.specs.declared.plan.Plan.{Plan}
 use Rattle.ppq_cli.specs.Budget.{refusal_by}
-use Rattle.ppq_cli.specs.Device.{AreBlocks, ComesBeforeBlocks, HasAllBlocks, HasNoBlock, HasReason, IsSurelyRun, make_end}
-use Rattle.ppq_cli.specs.DeviceFor.{IsDevice, LacksDevice}
+use Rattle.ppq_cli.specs.Device.{DeviceShape, IsBlock, AreBlocks, ComesBeforeBlocks, HasAllBlocks, HasNoBlock, HasReason, IsSurelyRun, make_end}
+use Rattle.ppq_cli.specs.DeviceFor.{plan_shape, HasShape, IsDevice, LacksDevice}
 use Rattle.ppq_cli.specs.Outside.{Faults, OutsideKept}
 use Rattle.ppq_cli.specs.RunWords.{IsTried, IsTriedOrRefusal}
 use Rattle.ppq_cli.proofs.Blocks.{returned, made_just}
@@ -133,9 +136,26 @@ unmade_unrefused : (fault : OutsideFault) → HasNoBlock (make_end fault) → �
 unmade_unrefused outside.Failed refused = refused
 unmade_unrefused outside.Memory refused = refused
 
+-- slots of so many bytes are blocks of a shape where each may have so many
+pub shaped : (IsSize : ℕ → Type 0) (bytes : ℕ) (slots : List Shown) → IsSize bytes → All (IsSlot bytes) slots → All (IsBlock IsSize) slots
+shaped IsSize bytes slots fits each = λ k d below. let slot = each k d below in record { size = subst IsSize (sym slot.size) fits; spent = slot.spent }
+
+-- the blocks of a plan's device are those of a shape that it has
+reshaped : (plan : Plan) (width : ℕ) (shape : DeviceShape) (end : End) (slots : List Shown) → HasShape plan width shape → AreBlocks (plan_shape plan width) end slots → AreBlocks shape end slots
+reshaped plan width shape end slots has are = record {
+  numbers = are.numbers;
+  each = λ k d below. let slot = are.each k d below in record { size = subst shape.IsSize (sym slot.size) has.size; spent = slot.spent };
+  most = omega (arith, are.most, has.blocks);
+  all = λ run. are.all run ∙ has.blocks;
+  all_or_none = λ run. elim (are.all_or_none run) as (λ _. (length slots ≡ shape.blocks) ⊎ (length slots ≡ 0)) [ inl all ↦ inl (all ∙ has.blocks) | inr none ↦ inr none ];
+  none = are.none;
+}
+
 -- the blocks that were made before one that could not be
-pub unmade_blocks : (most : ℕ) (slots : List Shown) (fault : OutsideFault) → IsPermutation (map (λ s. s.number) slots) (range_with_len 0 (length slots)) → length slots ≤ most → AreBlocks most (make_end fault) slots
-unmade_blocks most slots fault numbers within = record { numbers = numbers; most = within; all = λ run. absurd (unmade_unrun fault run); all_or_none = λ run. absurd (unmade_unbegun fault run); none = λ refused. absurd (unmade_unrefused fault refused) }
+pub unmade_blocks :
+    (plan : Plan) (width : ℕ) (slots : List Shown) (fault : OutsideFault) → IsPermutation (map (λ s. s.number) slots) (range_with_len 0 (length slots)) → All (IsNewSlot (plan.sizes.block * width)) slots → length slots ≤ plan.blocks
+    → AreBlocks (plan_shape plan width) (make_end fault) slots
+unmade_blocks plan width slots fault numbers new within = record { numbers = numbers; each = shaped (λ bytes. bytes ≡ plan.sizes.block * width) (plan.sizes.block * width) slots refl (new_slots_are (plan.sizes.block * width) slots new); most = within; all = λ run. absurd (unmade_unrun fault run); all_or_none = λ run. absurd (unmade_unbegun fault run); none = λ refused. absurd (unmade_unrefused fault refused) }
 
 -- ends that come of a run alone come of one that was begun
 pub surely_begun : (end : End) → IsSurelyRun end → BeganCommands end
@@ -146,15 +166,15 @@ surely_begun NoFreeBlock run = tt
 surely_begun end run = absurd run
 
 module _
-    {A L K O S : Type 0} (library : LibraryShows L) (rack : RackShows K S) (sink : SinkShows O) (shown : S → Shown) (device : A → List ℕ) (most : A → ℕ) (plan : Plan) (a : A) (same : plan.blocks ≡ most a)
+    {A L K O S : Type 0} (library : LibraryShows L) (rack : RackShows K S) (sink : SinkShows O) (shown : S → Shown) (device : A → List ℕ) (shape : A → DeviceShape) (plan : Plan) (width : ℕ) (a : A) (has : HasShape plan width (shape a))
     (old_rack new_rack : K) (ended : Ended S) where
   -- no device was made, and library and sink were left alone
-  pub unmade_outside : (held : L) (out : O) → LacksDevice rack shown plan (device a) old_rack new_rack ended → OutsideKept Rose library rack sink shown (Some a) device most held held old_rack new_rack out out ended
+  pub unmade_outside : (held : L) (out : O) → LacksDevice rack shown width plan (device a) old_rack new_rack ended → OutsideKept Rose library rack sink shown (Some a) device shape held held old_rack new_rack out out ended
   unmade_outside held out lacks =
       let unrun : IsSurelyRun ended.end → ⊥ = λ run. lacks.unbegun (surely_begun ended.end run) in
       record {
         made = lacks.made;
-        blocks = subst (λ (n : ℕ). AreBlocks n ended.end (map shown ended.blocks.items)) same lacks.blocks;
+        blocks = reshaped plan width (shape a) ended.end (map shown ended.blocks.items) has lacks.blocks;
         unfailed = unrun_unfailed ended.end unrun;
         failed = λ number is. absurd (unrun_failed ended.end unrun number is);
         rack_tells = lacks.kept;
@@ -165,21 +185,23 @@ module _
 
   -- a device was made, a run was tried over it, and all its blocks come back
   pub ran_outside :
-      (old_library new_library : L) (old_out new_out : O) (width : ℕ) (slots : List S)
+      (old_library new_library : L) (old_out new_out : O) (slots : List S)
       → IsDevice rack shown width plan (device a) old_rack new_rack slots → (ended.end ≡ NoDevice → ⊥) → (HasNoBlock ended.end → ⊥) → SameSlots (map shown slots) (map shown ended.blocks.items)
       → ((ended.end ≡ Done) ⊎ (ended.end ≡ NoFreeBlock) → All (λ (s : Shown). s.faults ≡ 0) (map shown ended.blocks.items)) → ((number : ℕ) → ended.end ≡ DeviceFault number → HasFailed number (map shown ended.blocks.items))
       → library.told new_library ≡ library.told old_library → Remembers (library.replied old_library) (library.replied new_library)
       → (ended.end ≡ ReadFault → Rose (library.faults old_library) (library.faults new_library)) → (ended.end ≡ WriteFault → Rose (sink.faults old_out) (sink.faults new_out))
       → library.faults old_library ≤ library.faults new_library → (¬ (ended.end ≡ ReadFault) → ¬ (ended.end ≡ WriteFault) → library.faults new_library ≡ library.faults old_library)
       → sink.faults old_out ≤ sink.faults new_out → (¬ (ended.end ≡ WriteFault) → sink.faults new_out ≡ sink.faults old_out)
-      → OutsideKept Rose library rack sink shown (Some a) device most old_library new_library old_rack new_rack old_out new_out ended
-  ran_outside old_library new_library old_out new_out width slots made made_some unrefused back unfailed failed files remembers read write library_later library_stays sink_later sink_stays =
+      → OutsideKept Rose library rack sink shown (Some a) device shape old_library new_library old_rack new_rack old_out new_out ended
+  ran_outside old_library new_library old_out new_out slots made made_some unrefused back unfailed failed files remembers read write library_later library_stays sink_later sink_stays =
       let slots_back = map shown ended.blocks.items in
       let numbers = returned (map shown slots) slots_back back made.new.numbers in
-      let all : length slots_back ≡ most a = back.length ∙ length-map slots shown ∙ made.all ∙ same in
+      let all : length slots_back ≡ (shape a).blocks = back.length ∙ length-map slots shown ∙ made.all ∙ has.blocks in
+      let bytes = plan.sizes.block * width in
+      let each = shaped (shape a).IsSize bytes slots_back has.size (blocks_back bytes (length (map shown slots)) (map shown slots) slots_back made.new.numbers made.new.each back) in
       record {
         made = made_just shown ended.blocks.items (rack.made old_rack (device a)) (rack.made new_rack (device a)) (length slots) numbers (back.length ∙ length-map slots shown) made.made;
-        blocks = record { numbers = numbers; most = omega (arith, all); all = λ run. all; all_or_none = λ run. inl all; none = λ refused. absurd (unrefused refused) };
+        blocks = record { numbers = numbers; each = each; most = omega (arith, all); all = λ run. all; all_or_none = λ run. inl all; none = λ refused. absurd (unrefused refused) };
         unfailed = unfailed;
         failed = failed;
         rack_tells = made.kept;

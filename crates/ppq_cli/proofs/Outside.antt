@@ -10,7 +10,7 @@ use Rattle.ppq_jobs.specs.ppq_engine.Ends.{NoFault}
 use Rattle.ppq_jobs.specs.ppq_engine.declared.end.End.{End}
 use Rattle.ppq_jobs.specs.ppq_engine.declared.end.End.TheVariants.{Done, DeviceFault, NoFreeBlock}
 use Rattle.ppq_jobs.specs.ppq_engine.declared.end.Ended.{Ended}
-use Rattle.ppq_cli.specs.Device.{IsSurelyRun, HasAllBlocks}
+use Rattle.ppq_cli.specs.Device.{IsSurelyRun, HasAllBlocks, DeviceShape}
 use Rattle.ppq_cli.specs.Outside.{IsHigher, Faults, OutsideKept}
 use Rattle.ppq_cli.proofs.Blocks.{made_nothing}
 use Rattle.ppq_cli.proofs.Ends.{no_blocks, surely_all}
@@ -56,19 +56,19 @@ pub unrun_failed : (end : End) → (IsSurelyRun end → ⊥) → (number : ℕ) 
 unrun_failed end not_run number is = not_run (subst IsSurelyRun (sym is) tt)
 
 module _
-    {A L K O S : Type 0} (library : LibraryShows L) (rack : RackShows K S) (sink : SinkShows O) (shown : S → Shown) (device : A → List ℕ) (most : A → ℕ) where
+    {A L K O S : Type 0} (library : LibraryShows L) (rack : RackShows K S) (sink : SinkShows O) (shown : S → Shown) (device : A → List ℕ) (shape : A → DeviceShape) where
   -- no block was made, and rack and sink were left alone
   pub blockless_outside :
       (Rises : ℕ → ℕ → Type 0) (given : Option A) (old new : L) (held : K) (out : O) (ended : Ended S) → ended.blocks.items ≡ [] → (HasAllBlocks ended.end → ⊥)
       → library.told new ≡ library.told old → Remembers (library.replied old) (library.replied new)
       → Faults Rises (library.faults old) (library.faults new) (rack.faults held) (rack.faults held) (sink.faults out) (sink.faults out) ended.end
-      → OutsideKept Rises library rack sink shown given device most old new held held out out ended
+      → OutsideKept Rises library rack sink shown given device shape old new held held out out ended
   blockless_outside Rises given old new held out ended none unmade told kept faults =
       let not_run : IsSurelyRun ended.end → ⊥ = λ run. unmade (surely_all ended.end run) in
       let slots : map shown ended.blocks.items ≡ [] = (let P : List S → Type 0 = λ s. map shown s ≡ [] in subst P (sym none) refl) in
       record {
         made = of_any given _ (λ a. made_nothing (λ s. (shown s).number) ended.blocks.items (rack.made held (device a)) none);
-        blocks = of_any given _ (λ a. no_blocks (most a) ended.end (map shown ended.blocks.items) unmade slots);
+        blocks = of_any given _ (λ a. no_blocks (shape a) ended.end (map shown ended.blocks.items) unmade slots);
         unfailed = unrun_unfailed ended.end not_run;
         failed = λ number is. absurd (unrun_failed ended.end not_run number is);
         rack_tells = λ tells. tells;
@@ -81,8 +81,8 @@ module _
   pub later_outside :
       (Rises : ℕ → ℕ → Type 0) (given : Option A) (old mid new : L) (old_rack new_rack : K) (old_out new_out : O) (ended : Ended S)
       → library.told mid ≡ library.told old → Remembers (library.replied old) (library.replied mid) → library.faults mid ≡ library.faults old
-      → OutsideKept Rises library rack sink shown given device most mid new old_rack new_rack old_out new_out ended
-      → OutsideKept Rises library rack sink shown given device most old new old_rack new_rack old_out new_out ended
+      → OutsideKept Rises library rack sink shown given device shape mid new old_rack new_rack old_out new_out ended
+      → OutsideKept Rises library rack sink shown given device shape old new old_rack new_rack old_out new_out ended
   later_outside Rises given old mid new old_rack new_rack old_out new_out ended told kept same f = record {
     made = f.made;
     blocks = f.blocks;
@@ -98,8 +98,8 @@ module _
   pub named_outside :
       (given : Option A) (a : A) (old new : L) (old_rack new_rack : K) (old_out new_out : O) (ended : Ended S)
       → given ≡ Some a → library.faults old < 2 ^ 63 → rack.faults old_rack < 2 ^ 63 → sink.faults old_out < 2 ^ 63
-      → OutsideKept Rose library rack sink shown (Some a) device most old new old_rack new_rack old_out new_out ended
-      → OutsideKept IsHigher library rack sink shown given device most old new old_rack new_rack old_out new_out ended
+      → OutsideKept Rose library rack sink shown (Some a) device shape old new old_rack new_rack old_out new_out ended
+      → OutsideKept IsHigher library rack sink shown given device shape old new old_rack new_rack old_out new_out ended
   named_outside given a old new old_rack new_rack old_out new_out ended is few_library few_rack few_sink f =
       let named : (P : A → Type 0) → P a → IfSome given P = λ P holds. (let Q : Option A → Type 0 = λ o. IfSome o P in subst Q (sym is) holds) in
       record {

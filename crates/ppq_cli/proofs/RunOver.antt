@@ -1,4 +1,4 @@
--- What `run_over` says where no device was made, and how its end follows from the device's and the script's.
+-- What `run_over` says of the shape of its device, and where no device was made, and how its end follows from the device's and the script's.
 use Rattle.std.proofs.Common.{◌≡◌, inl, inr, ℕ, List, Option, refl, sym, subst}
 use Rattle.ppq_words.specs.ppq_outside.Shown.{Shown}
 use Rattle.ppq_words.specs.ppq_outside.Told.{Reply}
@@ -9,9 +9,18 @@ use Rattle.ppq_jobs.specs.ppq_engine.Ends.{Class, Finished, Refused, Unmade, Unr
 use Rattle.ppq_jobs.specs.ppq_engine.declared.end.End.{End}
 use Rattle.ppq_jobs.specs.ppq_engine.declared.end.End.TheVariants.{FileChanged}
 use Rattle.ppq_jobs.proofs.ppq_engine.Running.{takes_none}
+use Rattle.ppq_cli.specs.declared.plan.Plan.{Plan}
+use Rattle.ppq_cli.specs.Budget.{plan_for}
+use Rattle.ppq_cli.specs.DeviceFor.{HasShape}
 use Rattle.ppq_cli.specs.Replies.{Files}
 use Rattle.ppq_cli.specs.RunOver.{RunWrites, RunEnds}
-use Rattle.ppq_cli.specs.RunWords.{refusal_of_budget, IsTriedOrRefusal}
+use Rattle.ppq_cli.specs.RunWords.{blocks_given, refusal_of_budget, IsTriedOrRefusal}
+
+-- the device of a plan for records of this width has the shape that the arguments give
+pub shape_planned : (width : ℕ) (r : Arguments) (plan : Plan) → plan ≡ plan_for width r.given → HasShape plan width (blocks_given r)
+shape_planned width r plan planned =
+    let P : Plan → Type 0 = λ p. HasShape p width (blocks_given r) in
+    subst P (sym planned) (record { blocks = refl; size = (width, refl) })
 
 -- no file was read where nothing was begun
 no_file : (class : Class) (P : Type 0) → (HasBegun class → ⊥) → IfFile class P

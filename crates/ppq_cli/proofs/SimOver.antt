@@ -42,7 +42,7 @@ module _ (told : Option (List ℕ → Option (List ℕ))) (asked : Asked) (place
 -- no device was made, so nothing was asked or written
 pub unmade_sims :
     {L K O S : Type 0} (library : LibraryShows L) (rack : RackShows K S) (sink : SinkShows O) (shown : S → Shown) (r : SimReading) (size : ℕ) (places : List Place) (held : L) (old_rack new_rack : K) (out : O) (ended : Ended S)
-    → LacksDevice rack shown (plan_for 24 r.given) r.device old_rack new_rack ended → SimsOver library rack sink shown r size places held held old_rack new_rack out out ended
+    → LacksDevice rack shown 24 (plan_for 24 r.given) r.device old_rack new_rack ended → SimsOver library rack sink shown r size places held held old_rack new_rack out out ended
 unmade_sims library rack sink shown r size places held old_rack new_rack out ended lacks =
     let no : (end : End) → BeganCommands end → ended.end ≡ end → ⊥ = λ end began is. lacks.unbegun (subst BeganCommands (sym is) began) in
     record {
@@ -55,5 +55,5 @@ unmade_sims library rack sink shown r size places held old_rack new_rack out end
       answer = lacks.answer;
       changed = λ line said got is. absurd (no _ tt is);
       asks = no_replies (library.replied held) _;
-      outside = unmade_outside library rack sink shown sim_device sim_blocks (plan_for 24 r.given) r refl old_rack new_rack ended held out lacks;
+      outside = unmade_outside library rack sink shown sim_device sim_blocks (plan_for 24 r.given) 24 r (record { blocks = refl; size = refl }) old_rack new_rack ended held out lacks;
     }

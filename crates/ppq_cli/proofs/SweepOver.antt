@@ -71,7 +71,7 @@ unmade_good plan end at answer is =
 -- no device was made, so nothing was asked or written
 pub unmade_sweeps :
     {L K O S : Type 0} (library : LibraryShows L) (rack : RackShows K S) (sink : SinkShows O) (shown : S → Shown) (r : SweepReading) (size : ℕ) (held : L) (old_rack new_rack : K) (out : O) (ended : Ended S)
-    → LacksDevice rack shown (half_plan_for 16 r.given) r.device old_rack new_rack ended → SweepsOver library rack sink shown r size held held old_rack new_rack out out ended
+    → LacksDevice rack shown 16 (half_plan_for 16 r.given) r.device old_rack new_rack ended → SweepsOver library rack sink shown r size held held old_rack new_rack out out ended
 unmade_sweeps library rack sink shown r size held old_rack new_rack out ended lacks =
     let no : (end : End) → BeganCommands end → ended.end ≡ end → ⊥ = λ end began is. lacks.unbegun (subst BeganCommands (sym is) began) in
     record {
@@ -84,5 +84,5 @@ unmade_sweeps library rack sink shown r size held old_rack new_rack out ended la
       good = λ either. absurd (elim either as (λ _. ⊥) [ inl is ↦ no _ tt is | inr is ↦ no _ tt is ]);
       changed = λ line said got is. absurd (no _ tt is);
       asks = no_replies (library.replied held) _;
-      outside = unmade_outside library rack sink shown sweep_device sweep_blocks (half_plan_for 16 r.given) r refl old_rack new_rack ended held out lacks;
+      outside = unmade_outside library rack sink shown sweep_device sweep_blocks (half_plan_for 16 r.given) 16 r (record { blocks = refl; size = refl }) old_rack new_rack ended held out lacks;
     }

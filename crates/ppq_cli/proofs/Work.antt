@@ -1,13 +1,13 @@
 -- How much a script may push: it has no more commands than bytes, and none pushes more than 4,294,967,296 records. So the numbers of its work are
 -- far from the value at which they would stand still.
-use Rattle.std.proofs.Common.{◌≡◌, ℕ, ◌+◌, ◌*◌, ◌/◌, ◌^◌, ◌<◌, ◌≤◌, Bool, true, false, cond, List, [], ◌∷◌, length, map, Option, Some, None, refl, sym, ap, ap₂, ◌∙◌, subst, arith, inl, inr, eq-zero-or-pos, div-le_self, div-lt_iff_lt-mul, mul_comm, mul_assoc, mul_left_comm, mul-add, mul-le-mul_right, le_of_mul-le-mul_right}
+use Rattle.std.proofs.Common.{◌≡◌, ℕ, ◌+◌, ◌*◌, ◌/◌, ◌<◌, ◌≤◌, Bool, true, false, cond, List, [], ◌∷◌, All, length, map, Option, Some, None, refl, sym, ap, subst, arith, inl, inr, eq-zero-or-pos, div-le_self, div-lt_iff_lt-mul}
 use Rattle.std.specs.Int.{div_ceil}
 use Rattle.std.specs.Prelude.{◌==◌}
 use Rattle.std.specs.List.{AllZip, AllByRecursion as Each}
 use Rattle.std.proofs.lemmas.List.Sums.{sum_by-cons}
 use Rattle.ppq_words.specs.ppq_outside.Told.{Reply}
 use Rattle.ppq_words.specs.ppq_outside.Shown.{Shown}
-use Rattle.ppq_words.specs.ppq_budget.Sizes.{Numbers, AreInRange, heap_of}
+use Rattle.ppq_words.specs.ppq_budget.Sizes.{Numbers, heap_of}
 use Rattle.ppq_words.specs.ppq_script.Words.{Words}
 use Rattle.ppq_words.specs.ppq_script.declared.command.Command.{Command}
 use Rattle.ppq_words.specs.ppq_script.declared.command.Command.TheVariants.{Bulk, Gen, BulkBegin, LimitBegin}
@@ -23,9 +23,10 @@ use Rattle.ppq_words.specs.ppq_script.Checking.{IsAsked, IsAskedFile}
 use Rattle.ppq_words.specs.ppq_script.Reading.{Reading, command_list}
 use Rattle.ppq_words.proofs.ppq_script.Spelling.{Reads-Plain}
 use Rattle.ppq_words.proofs.ppq_script.WordLaws.{Laws}
-use Rattle.ppq_jobs.specs.ppq_engine.ppq_array.Kept.{all_writes}
-use Rattle.ppq_jobs.specs.ppq_engine.ppq_counts.Tally.{Tally, IsCounting, runs_of, bound_of}
+use Rattle.ppq_jobs.specs.ppq_engine.ppq_array.Supply.{IsSlot}
+use Rattle.ppq_jobs.specs.ppq_engine.ppq_counts.Tally.{Tally, IsCounting}
 use Rattle.ppq_jobs.specs.ppq_engine.Work.{pushes_of, begins_of, pushed_by, begun_by, work_of, TransfersFew}
+use Rattle.ppq_jobs.proofs.ppq_engine.ppq_load.ppq_queue.Overreads.{spent_all}
 use Rattle.ppq_cli.specs.Load.{script_kinds}
 use Rattle.ppq_cli.specs.Replies.{Files, IsScript}
 use Rattle.ppq_cli.specs.Transfers.{TransfersWithin}
@@ -88,23 +89,6 @@ record AreFew (t : Tally) : Type 0 where
   accepted : t.accepted ≤ 4294967296 * 1048577
   stores : t.stores ≤ t.accepted + 1
   sessions : t.sessions ≤ 1048577
-
--- so are the writes that they bound, of workers and blocks in their range
-few_blocks : (workers block writes : ℕ) (t : Tally) → 1 ≤ block → workers ≤ 64 → AreFew t → block * writes ≤ bound_of workers block t → writes < 2 ^ 63
-few_blocks workers block writes t some most few within =
-    let begun = t.stores + t.sessions in
-    let most_of = 8 * t.accepted + (8 * (workers * begun) + 2 * runs_of workers t) in
-    let records : 1 * (8 * t.accepted) ≤ block * (8 * t.accepted) = mul-le-mul_right (8 * t.accepted) some in
-    let batches : workers * block * begun ≡ block * (workers * begun) = ap (λ n. n * begun) (mul_comm workers block) ∙ mul_assoc block workers begun in
-    let parts : block * most_of ≡ block * (8 * t.accepted) + (8 * (block * (workers * begun)) + 2 * (block * runs_of workers t)) = parted block (8 * t.accepted) (workers * begun) (runs_of workers t) in
-    let below : writes * block ≤ most_of * block = omega (arith, within, records, batches, parts, mul_comm block writes, mul_comm block most_of) in
-    let all : writes ≤ most_of = le_of_mul-le-mul_right below some in
-    let one : workers * begun ≤ 64 * begun = mul-le-mul_right begun most in
-    let two : (workers + 2) * t.sessions ≤ 66 * t.sessions = mul-le-mul_right t.sessions (omega (arith, most)) in
-    omega (arith, all, one, two, few.accepted, few.stores, few.sessions)
-  where
-    parted : (b x y z : ℕ) → b * (x + (8 * y + 2 * z)) ≡ b * x + (8 * (b * y) + 2 * (b * z))
-    parted b x y z = mul-add b x (8 * y + 2 * z) ∙ ap (λ n. b * x + n) (mul-add b (8 * y) (2 * z) ∙ ap₂ (λ m n. m + n) (mul_left_comm b 8 y) (mul_left_comm b 2 z))
 
 -- a command begins no more than one session
 begins_few : {R : Type 0} (command : Command R) → begins_of command ≤ 1
@@ -225,12 +209,12 @@ module _ {R : Type 0} (words : Words R) where
         sessions = omega (arith, lines, known, first, all.1, begun, short);
       }
 
-  -- so its transfers are within the bound
+  -- so the transfers of its blocks are within the bound
   pub within :
       Laws words → (told : Option Files) (replied : Reply → Type 0) (bytes : List ℕ) (workers : ℕ) (script : Reading R) → length bytes ≤ 1048576
-      → IsScript words told replied bytes workers script → (sizes : Numbers) (slots : List Shown) → AreInRange sizes → TransfersFew words (command_list script) sizes slots
-      → TransfersWithin sizes (work_of words sizes (command_list script)) slots
-  within laws told replied bytes workers script short is sizes slots range transfers =
+      → IsScript words told replied bytes workers script → (sizes : Numbers) (slots : List Shown) → TransfersFew words (command_list script) sizes slots
+      → All (IsSlot (sizes.block * words.WIDTH)) slots → TransfersWithin sizes words.WIDTH (work_of words sizes (command_list script)) slots
+  within laws told replied bytes workers script short is sizes slots transfers each =
       let few = script_few laws told replied bytes workers script short is sizes in
       let counting : IsCounting (work_of words sizes (command_list script)) =
       record {
@@ -240,6 +224,6 @@ module _ {R : Type 0} (words : Words R) where
       } in
       record {
         writes = transfers.writes counting;
-        read = λ light. transfers.read (few_blocks sizes.workers sizes.block (all_writes slots) (work_of words sizes (command_list script)) (omega (arith, range.two_records)) range.workers few (transfers.writes counting light));
-        read_any = transfers.read;
+        read = spent_all slots transfers.read;
+        each = each;
       }

@@ -64,11 +64,22 @@ HasNoBlock (end.BadEdge zero) = ⊤
 HasNoBlock (end.BadEdge (suc at)) = ⊥
 HasNoBlock answer = ComesBeforeBlocks answer
 
--- the blocks that come back with an end, of a device that has so many: their numbers are those from 0 on, each once; all of them
+-- what a device has: so many blocks, and which numbers of bytes each may have
+pub record DeviceShape : Type 1 where
+  pub blocks : ℕ
+  pub IsSize : ℕ → Type 0
+
+-- a block that comes back has such a number of bytes, and was read no more often than it was written
+pub record IsBlock (IsSize : ℕ → Type 0) (slot : Shown) : Type 0 where
+  pub size : IsSize slot.size
+  pub spent : slot.reads ≤ slot.writes
+
+-- the blocks that come back with an end, of a device of this shape: their numbers are those from 0 on, each once; all of them
 -- where the script was run, or a record is no edge; none where it was refused, or a file is none of edges
-pub record AreBlocks (blocks : ℕ) (answer : End) (slots : List Shown) : Type 0 where
+pub record AreBlocks (shape : DeviceShape) (answer : End) (slots : List Shown) : Type 0 where
   pub numbers : IsPermutation (map (λ s. s.number) slots) (range_with_len 0 (length slots))
-  pub most : length slots ≤ blocks
-  pub all : HasAllBlocks answer → length slots ≡ blocks
-  pub all_or_none : BeganCommands answer → (length slots ≡ blocks) ⊎ (length slots ≡ 0)
+  pub each : All (IsBlock shape.IsSize) slots
+  pub most : length slots ≤ shape.blocks
+  pub all : HasAllBlocks answer → length slots ≡ shape.blocks
+  pub all_or_none : BeganCommands answer → (length slots ≡ shape.blocks) ⊎ (length slots ≡ 0)
   pub none : HasNoBlock answer → length slots ≡ 0

@@ -11,7 +11,7 @@ use Rattle.ppq_jobs.specs.ppq_engine.Ends.{BeganCommands}
 use Rattle.ppq_jobs.specs.ppq_engine.declared.end.End.{End}
 use Rattle.ppq_jobs.specs.ppq_engine.declared.end.End.TheVariants.{Done, Usage, ReadFault, WriteFault, DeviceFault, NoFreeBlock, Memory, NoDevice}
 use Rattle.ppq_jobs.specs.ppq_engine.declared.end.Ended.{Ended}
-use Rattle.ppq_cli.specs.Device.{AreBlocks}
+use Rattle.ppq_cli.specs.Device.{DeviceShape, AreBlocks}
 
 -- the ends after which something may have been written
 abbrev pub MayWrite : End → Type 0
@@ -41,14 +41,14 @@ pub record Faults (Rises : ℕ → ℕ → Type 0) (of_library library_now of_ra
   pub sink_later : of_sink ≤ sink_now
   pub sink_stays : ¬ (end ≡ WriteFault) → sink_now ≡ of_sink
 
--- What was given, if anything was, names a device and how many blocks it has. All blocks that the rack made of that device come back, each once: one of
+-- What was given, if anything was, names a device and what it has. All blocks that the rack made of that device come back, each once: one of
 -- them failed where the end says so, and none where all was done or no block was free. The rack goes on telling, the library tells what it told and
 -- remembers what it replied, and the counts of faults are right
 pub record OutsideKept
     {A L K O S : Type 0} (Rises : ℕ → ℕ → Type 0) (library : LibraryShows L) (rack : RackShows K S) (sink : SinkShows O) (shown : S → Shown)
-    (given : Option A) (device : A → List ℕ) (most : A → ℕ) (old_library new_library : L) (old_rack new_rack : K) (old_out new_out : O) (ended : Ended S) : Type 0 where
+    (given : Option A) (device : A → List ℕ) (shape : A → DeviceShape) (old_library new_library : L) (old_rack new_rack : K) (old_out new_out : O) (ended : Ended S) : Type 0 where
   pub made : IfSome given (λ r. HasMadeJust (rack.made old_rack (device r)) (rack.made new_rack (device r)) (map (λ slot. (shown slot).number) ended.blocks.items))
-  pub blocks : IfSome given (λ r. AreBlocks (most r) ended.end (map shown ended.blocks.items))
+  pub blocks : IfSome given (λ r. AreBlocks (shape r) ended.end (map shown ended.blocks.items))
   pub unfailed : (ended.end ≡ Done) ⊎ (ended.end ≡ NoFreeBlock) → All (λ (s : Shown). s.faults ≡ 0) (map shown ended.blocks.items)
   pub failed : (number : ℕ) → ended.end ≡ DeviceFault number → HasFailed number (map shown ended.blocks.items)
   pub rack_tells : rack.tells old_rack → rack.tells new_rack

@@ -1,5 +1,5 @@
 -- What a library replied of a file, and how a run ends for it. It is said of every library, also of one that does not tell.
-use Rattle.std.specs.Prelude.{◌≡◌, ◌⊎◌, ℕ, ◌≤◌, List, take, slice_get, Option, Some, None, IfSome, IsTrue, ⊤}
+use Rattle.std.specs.Prelude.{◌≡◌, ◌⊎◌, ℕ, ◌≤◌, List, [], take, slice_get, Option, Some, None, IfSome, IsTrue, ⊤}
 use Rattle.std.specs.List.{AllZip}
 use Rattle.ppq_words.specs.ppq_outside.Shown.{Shown}
 use Rattle.ppq_words.specs.ppq_outside.Told.{Reply, RepliesOnly, TakesAll, TakesPart}
@@ -30,7 +30,7 @@ use Rattle.ppq_jobs.specs.ppq_engine.declared.end.End.TheVariants.{BadLine, Budg
 use Rattle.ppq_cli.specs.Budget.{need_for, IsBelowNeed}
 use Rattle.ppq_cli.specs.Device.{IsSurelyRun}
 use Rattle.ppq_cli.specs.Load.{check_end, load_end, script_kinds}
-use Rattle.ppq_cli.specs.Transfers.{TransfersWithin, AreUntouched}
+use Rattle.ppq_cli.specs.Transfers.{TransfersWithin}
 use Rattle.ppq_cli.specs.Types.{type_of}
 
 -- the files that a library tells: the bytes under each name, none where there is no file
@@ -205,11 +205,11 @@ abbrev pub RunIsRight : Type 0 → Option Files → (Reply → Type 0) → Argum
 RunIsRight tells told replied r before now blocks end =
     WroteNothing before now end ⊎ OfLoaded told replied r.script (λ bytes. RunOf (type_of bytes).words tells told replied r bytes before now blocks end)
 
--- no block was written or read; or the script was read, and the transfers of these blocks are within the bound of its work
+-- no block comes back; or the script was read, and the transfers of these blocks are within the bound of its work
 abbrev pub TransfersOf : {R : Type 0} → Words R → Option Files → (Reply → Type 0) → Arguments → List ℕ → List Shown → Type 0
 TransfersOf words told replied r bytes blocks =
-    AreUntouched blocks ⊎ OfGood words told replied r bytes (λ script. TransfersWithin (sizes_at words.WIDTH r) (work_of words (sizes_at words.WIDTH r) (command_list script)) blocks)
+    (blocks ≡ []) ⊎ OfGood words told replied r bytes (λ script. TransfersWithin (sizes_at words.WIDTH r) words.WIDTH (work_of words (sizes_at words.WIDTH r) (command_list script)) blocks)
 
--- no block was written or read; or the library gave the script as some bytes, and so it is with the records that its head names
+-- no block comes back; or the library gave the script as some bytes, and so it is with the records that its head names
 abbrev pub TransfersAreRight : Option Files → (Reply → Type 0) → Arguments → List Shown → Type 0
-TransfersAreRight told replied r blocks = AreUntouched blocks ⊎ OfLoaded told replied r.script (λ bytes. TransfersOf (type_of bytes).words told replied r bytes blocks)
+TransfersAreRight told replied r blocks = (blocks ≡ []) ⊎ OfLoaded told replied r.script (λ bytes. TransfersOf (type_of bytes).words told replied r bytes blocks)

@@ -1,5 +1,5 @@
 -- What `run_over` says, of a script that was loaded and is run over a device; and `run_bytes`, of a script's bytes.
-use Rattle.std.specs.Prelude.{◌≡◌, ◌⊎◌, ℕ, List, map, Option, Some, IfSome}
+use Rattle.std.specs.Prelude.{◌≡◌, ◌⊎◌, ◌*◌, ℕ, List, map, Option, Some, IfSome, All}
 use Rattle.ppq_words.specs.ppq_outside.Shown.{Shown}
 use Rattle.ppq_words.specs.ppq_outside.Told.{Reply, Rose}
 use Rattle.ppq_words.specs.ppq_outside.declared.library.Library.{Ghosts as LibraryShows}
@@ -9,6 +9,7 @@ use Rattle.ppq_words.specs.ppq_script.Words.{Words}
 use Rattle.ppq_words.specs.Reading.{Reading as Arguments, sizes_at}
 use Rattle.ppq_words.specs.ppq_script.Reading.{Reading, command_list}
 use Rattle.ppq_words.specs.ppq_budget.Sizes.{Numbers, AreInRange}
+use Rattle.ppq_jobs.specs.ppq_engine.ppq_array.Supply.{IsSlot}
 use Rattle.ppq_jobs.specs.ppq_engine.Running.{HasChanged}
 use Rattle.ppq_jobs.specs.ppq_engine.Work.{TransfersFew}
 use Rattle.ppq_jobs.specs.ppq_engine.declared.end.End.{End}
@@ -33,10 +34,11 @@ pub record RunEnds {R : Type 0} (words : Words R) (told : Option Files) (replied
   pub answer : IsTriedOrRefusal (refusal_of_budget words r) end
   pub changed : (line said got : ℕ) → end ≡ FileChanged line said got → HasChanged told replied script line said got
 
--- each of these sizes is in its range, and few blocks were written and read for the work of the script
+-- each of these sizes is in its range, few blocks were written and read for the work of the script, and each has the bytes of a block of its records
 pub record RunTransfers {R : Type 0} (words : Words R) (sizes : Numbers) (script : Reading R) (blocks : List Shown) : Type 0 where
   pub range : AreInRange sizes
   pub few : TransfersFew words (command_list script) sizes blocks
+  pub each : All (IsSlot (sizes.block * words.WIDTH)) blocks
 
 -- What comes of a script of these bytes with records of this type, by what library, rack, sink and blocks show, before it and after it: what
 -- the sink took, when each end comes, and what is said of the outside

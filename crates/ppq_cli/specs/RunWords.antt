@@ -1,5 +1,5 @@
 -- The words of the contract of `run_words`, in the order of its clauses; those that speak of the outside alone are in `Outside`. `run_over`, `run_and_report` and `run_twice` use them too.
-use Rattle.std.specs.Prelude.{◌≡◌, ◌⊎◌, ℕ, List, length, Option, Some, None, if◌then◌else◌, IfSome, nat_lt, MatchOption, map, slice_get, take, String}
+use Rattle.std.specs.Prelude.{◌≡◌, ◌⊎◌, ◌*◌, ℕ, List, length, Option, Some, None, if◌then◌else◌, IfSome, nat_lt, MatchOption, map, slice_get, take, String}
 use Rattle.std.specs.declared.alloc.Global.{Global}
 use Rattle.ppq_jobs.specs.ppq_engine.ppq_load.Given.{records_of}
 use Rattle.ppq_words.specs.ppq_outside.Shown.{Shown}
@@ -24,6 +24,7 @@ use Rattle.ppq_jobs.specs.ppq_engine.Refusal.{HasRoom, HasNoRoom}
 use Rattle.ppq_jobs.specs.ppq_engine.Ends.{BeganCommands, NoFault}
 use Rattle.ppq_jobs.specs.ppq_engine.Work.{work_of}
 use Rattle.ppq_cli.specs.Budget.{refusal_for}
+use Rattle.ppq_cli.specs.Device.{DeviceShape}
 use Rattle.ppq_cli.specs.Outside.{WritesText, IsHigher, OutsideKept, Unreadable}
 use Rattle.ppq_cli.specs.Load.{script_kinds}
 use Rattle.ppq_cli.specs.Replies.{Files, RefusalIsRight, CompletesAsGiven, RunIsRight, TransfersAreRight, AsksAreRight}
@@ -40,12 +41,12 @@ reading words = reading_of (texts_of words)
 abbrev pub OfWords : List (String Global) → (Reading → Type 0) → Type 0
 OfWords words P = IfSome (reading words) P
 
--- the device that they name, and how many blocks it has
+-- the device that they name, and what it has: so many blocks, each of as many bytes as its records, of some width
 abbrev pub device_named : Reading → List ℕ
 device_named r = r.device
 
-abbrev pub blocks_given : Reading → ℕ
-blocks_given r = r.given.numbers.blocks
+abbrev pub blocks_given : Reading → DeviceShape
+blocks_given r = record { blocks = r.given.numbers.blocks; IsSize = λ bytes. (width : ℕ) × (bytes ≡ r.given.numbers.block * width) }
 
 -- the commands of a script of these bytes for so many workers, where these are the files: each that reads one has its length
 abbrev pub script_commands : {R : Type 0} → Words R → Files → List ℕ → ℕ → List (Command R)
@@ -133,10 +134,10 @@ least_by type given commands = least_of type.words commands
 abbrev pub UsesDevice : {S : Type 0} → Measure → (S → Shown) → Ended S → About
 UsesDevice measure shown ended type r given commands = FitsWritten (measure type given commands) (sizes_at type.words.WIDTH r) (map shown ended.blocks.items)
 
--- the transfers of these blocks are within the bound of the script's work: the records that its commands push, the heaps that these fill, and the
--- sessions that begin
+-- these blocks have the bytes of a block of the script's records, and their transfers are within the bound of its work: the records that its commands
+-- push, the heaps that these fill, and the sessions that begin
 abbrev pub TransfersBounded : {S : Type 0} → (S → Shown) → Ended S → About
-TransfersBounded shown ended type r given commands = TransfersWithin (sizes_at type.words.WIDTH r) (work_of type.words (sizes_at type.words.WIDTH r) commands) (map shown ended.blocks.items)
+TransfersBounded shown ended type r given commands = TransfersWithin (sizes_at type.words.WIDTH r) type.words.WIDTH (work_of type.words (sizes_at type.words.WIDTH r) commands) (map shown ended.blocks.items)
 
 -- the same by the commands of the script that the library gave, whether it tells or not
 abbrev pub AreTransfersRight : {L S : Type 0} → List (String Global) → (L → Option Files) → L → (L → Reply → Type 0) → L → (S → Shown) → Ended S → Type 0

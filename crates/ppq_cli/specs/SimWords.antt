@@ -1,5 +1,5 @@
 -- The words of the contract of `sim_words`: the agenda that the arguments name, its run, and what is said of it.
-use Rattle.std.specs.Prelude.{◌≡◌, ◌⊎◌, ◌≤◌, ◌+◌, false, ℕ, List, length, Option, Some, None, IfSome, ⊤, String}
+use Rattle.std.specs.Prelude.{◌≡◌, ◌⊎◌, ◌≤◌, ◌+◌, ◌*◌, false, ℕ, List, length, Option, Some, None, IfSome, ⊤, String}
 use Rattle.std.specs.declared.alloc.Global.{Global}
 use Rattle.ppq_files.specs.Lengths.{IsRecordLength, IsAbsent, HasPartRecords}
 use Rattle.ppq_files.specs.Reading.{IsOn}
@@ -21,7 +21,7 @@ use Rattle.ppq_jobs.specs.ppq_handler.Agenda.{Run, journal}
 use Rattle.ppq_jobs.specs.Asked.{Asked, count_of, run_of, load_of_run}
 use Rattle.ppq_jobs.specs.Ending.{RanOut, HasShrunk}
 use Rattle.ppq_cli.specs.Budget.{plan_for, IsBelow}
-use Rattle.ppq_cli.specs.Device.{IsSurelyRun}
+use Rattle.ppq_cli.specs.Device.{IsSurelyRun, DeviceShape}
 use Rattle.ppq_cli.specs.Load.{refusal_of_record_length, refusal_of_record_file}
 use Rattle.ppq_cli.specs.Outside.{WritesText, IsHigher, OutsideKept, Unreadable}
 use Rattle.ppq_cli.specs.Replies.{Files}
@@ -37,12 +37,12 @@ sim_reading words = sim_reading_of (texts_of words)
 abbrev pub OfSim : List (String Global) → (SimReading → Type 0) → Type 0
 OfSim words P = IfSome (sim_reading words) P
 
--- the device that they name, and how many blocks it has
+-- the device that they name, and what it has: so many blocks, each of the bytes of its events
 abbrev pub sim_device : SimReading → List ℕ
 sim_device r = r.device
 
-abbrev pub sim_blocks : SimReading → ℕ
-sim_blocks r = r.given.numbers.blocks
+abbrev pub sim_blocks : SimReading → DeviceShape
+sim_blocks r = record { blocks = r.given.numbers.blocks; IsSize = λ bytes. bytes ≡ r.given.numbers.block * 24 }
 
 -- the sizes of the queue in which events wait, each of 24 bytes
 abbrev pub sim_sizes : SimReading → Numbers

@@ -1,5 +1,5 @@
 -- The words of the contract of `sweep_words`: the graph that the arguments name, its lines, and what is said of it.
-use Rattle.std.specs.Prelude.{◌≡◌, ◌⊎◌, ◌≤◌, false, ℕ, zero, suc, List, [], length, Option, Some, None, IfSome, ⊤, String}
+use Rattle.std.specs.Prelude.{◌≡◌, ◌⊎◌, ◌≤◌, ◌*◌, false, ℕ, zero, suc, List, [], length, Option, Some, None, IfSome, ⊤, String}
 use Rattle.std.specs.declared.alloc.Global.{Global}
 use Rattle.ppq_files.specs.Lengths.{IsRecordLength, IsAbsent, HasPartRecords}
 use Rattle.ppq_files.specs.Reading.{IsOn}
@@ -23,7 +23,7 @@ use Rattle.ppq_jobs.specs.ppq_engine.declared.end.Ended.{Ended}
 use Rattle.ppq_jobs.specs.Edges.{Wanted, edge_count, first_bad, FindsBad, FindsNone}
 use Rattle.ppq_jobs.specs.Ending.{HasShrunk}
 use Rattle.ppq_cli.specs.Budget.{half_plan_for, IsBelow}
-use Rattle.ppq_cli.specs.Device.{IsSurelyRun}
+use Rattle.ppq_cli.specs.Device.{IsSurelyRun, DeviceShape}
 use Rattle.ppq_cli.specs.Load.{refusal_of_record_length, refusal_of_record_file}
 use Rattle.ppq_cli.specs.Outside.{WritesText, IsHigher, OutsideKept, Unreadable}
 use Rattle.ppq_cli.specs.Replies.{Files}
@@ -39,12 +39,12 @@ sweep_reading words = sweep_reading_of (texts_of words)
 abbrev pub OfSweep : List (String Global) → (SweepReading → Type 0) → Type 0
 OfSweep words P = IfSome (sweep_reading words) P
 
--- the device that they name, and how many blocks are made of it: as many for the one queue as for the other
+-- the device that they name, and what is made of it: as many blocks for the one queue as for the other, each of the bytes of its records
 abbrev pub sweep_device : SweepReading → List ℕ
 sweep_device r = r.device
 
-abbrev pub sweep_blocks : SweepReading → ℕ
-sweep_blocks r = (half_plan_for 16 r.given).blocks
+abbrev pub sweep_blocks : SweepReading → DeviceShape
+sweep_blocks r = record { blocks = (half_plan_for 16 r.given).blocks; IsSize = λ bytes. bytes ≡ r.given.numbers.block * 16 }
 
 -- the sizes of each of the two queues, whose records have 16 bytes
 abbrev pub sweep_sizes : SweepReading → Numbers

@@ -72,7 +72,7 @@ pub fn device_for<R: Record, H: Host, K: Rack, G: Gate>(
     rack: &mut K,
 ) -> Result<Vec<K::Slot>, Ended<K::Slot>>
     ensures made { IfOk result (λ blocks. IsDevice K.Rack K.Slot.shown R.WIDTH plan.now device.now rack.old rack.new blocks.items) }
-    ensures unmade { IfErr result (LacksDevice K.Rack K.Slot.shown plan.now device.now rack.old rack.new) }
+    ensures unmade { IfErr result (LacksDevice K.Rack K.Slot.shown R.WIDTH plan.now device.now rack.old rack.new) }
     ensures range { AreInRange plan.now.sizes }
 {
     record_laws::<R>();

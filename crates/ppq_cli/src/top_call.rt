@@ -11,7 +11,7 @@ ghost use Rattle.ppq_jobs.specs.ppq_engine.declared.end.End.TheVariants.{Done, U
 ghost use Rattle.ppq_cli.specs.Device.{AreBlocks};
 ghost use Rattle.ppq_cli.specs.Outside.{MayWrite};
 ghost use Rattle.ppq_cli.specs.Replies.{RefusalIsRight, CompletesAsGiven, AsksAreRight};
-ghost use Rattle.ppq_cli.specs.RunWords.{reading, OfWords, OfScript, WritesAll, WritesPart, WritesRoom, WritesToFile, WritesToLoad, IfRan, UsesDevice, TransfersBounded, AreTransfersRight};
+ghost use Rattle.ppq_cli.specs.RunWords.{reading, blocks_given, OfWords, OfScript, WritesAll, WritesPart, WritesRoom, WritesToFile, WritesToLoad, IfRan, UsesDevice, TransfersBounded, AreTransfersRight};
 ghost use Rattle.ppq_cli.specs.RunWords.{load_by, crest_by, most_by, least_by, refusal_of, IsAnswer, IsTooLarge, Completes};
 
 use crate::context::Context;
@@ -34,18 +34,18 @@ use std::alloc::Global;
 /// arguments name. After `Done` what the budget cannot hold was written to them, and no call of a block failed;
 /// files are only read, and never past a length that the library said. Whatever the outcome, few blocks are
 /// written for the records that the script pushes, the heaps that these fill and the sessions that it begins,
-/// and no more are read than written, unless twice these heaps and `workers + 2` times the sessions come to 8^8
-/// or more. Each outcome comes only for its cause, and `Usage`, `NoScript`, `ScriptTooLong`, `BadLine` and
-/// `BudgetTooSmall` if and only if they are due, in this order, unless an allocation or a read failed; these
-/// five make no block, and without a reading nothing of the outside is called. No count of faults falls, and
-/// none rises but with the outcome that names it, and the library's with `WriteFault`, before which a read may
-/// have failed; so the same outside can be handed in again. A script that is not refused ends `Done` or
-/// `Memory`, unless the outcome names a fault, if there is room for its load: on the device, or in one heap
+/// unless twice these heaps and `workers + 2` times the sessions come to 8^8 or more; and no block is read more
+/// often than it is written. Each outcome comes only for its cause, and `Usage`, `NoScript`, `ScriptTooLong`,
+/// `BadLine` and `BudgetTooSmall` if and only if they are due, in this order, unless an allocation or a read
+/// failed; these five make no block, and without a reading nothing of the outside is called. No count of faults
+/// falls, and none rises but with the outcome that names it, and the library's with `WriteFault`, before which
+/// a read may have failed; so the same outside can be handed in again. A script that is not refused ends `Done`
+/// or `Memory`, unless the outcome names a fault, if there is room for its load: on the device, or in one heap
 /// where the script begins no limit session. This is said of an outside that is visible to proofs; of any other
 /// library, the outcomes, how few blocks are written and read, and the output of a script that reads no file,
 /// are those of the bytes that its reads returned as the script. That script ends `Done`, `Memory` or
-/// `FileChanged`, unless it is refused or the outcome names a fault, if there is room for the greatest load that
-/// its commands can lead to.
+/// `FileChanged`, unless it is refused or the outcome names a fault, if there is room for the greatest load
+/// that its commands can lead to.
 ///
 /// What the outcomes say, besides `Done`:
 ///
@@ -98,7 +98,7 @@ where
 
     // The outside: all blocks come back, and a count of faults rises only with the outcome that names it; but a read may have failed before `WriteFault`.
     ensures made { OfWords words.now (λ r. HasMadeJust (K.made rack.old r.device) (K.made rack.new r.device) (map (λ slot. (K.Slot.shown slot).number) result.blocks.items)) }
-    ensures blocks { OfWords words.now (λ r. AreBlocks r.given.numbers.blocks result.end (map K.Slot.shown result.blocks.items)) }
+    ensures blocks { OfWords words.now (λ r. AreBlocks (blocks_given r) result.end (map K.Slot.shown result.blocks.items)) }
     ensures unfailed { (result.end ≡ Done) ⊎ (result.end ≡ NoFreeBlock) → All (λ s. s.faults ≡ 0) (map K.Slot.shown result.blocks.items) }
     ensures failed { (number : ℕ) → result.end ≡ DeviceFault number → HasFailed number (map K.Slot.shown result.blocks.items) }
     ensures rack_tells { K.tells rack.old → K.tells rack.new }

@@ -10,16 +10,17 @@ use Rattle.ppq_script.specs.declared.command.Command.{Command}
 use Rattle.ppq_script.specs.declared.command.Command.TheVariants.{BulkBegin, BulkPush, BulkEnd, LimitBegin, LimitPush, LimitEnd}
 use Rattle.ppq_script.specs.Parts.{bulk_part, limit_part}
 use Rattle.ppq_load.specs.ppq_budget.Sizes.{Numbers, AreInRange, heap_of}
-use Rattle.ppq_load.specs.ppq_array.Kept.{SameSums, all_writes, all_reads}
+use Rattle.ppq_load.specs.ppq_array.Kept.{SameSums, all_writes}
 use Rattle.ppq_load.specs.ppq_array.declared.store_fault.StoreFault.{StoreFault as QueueFault}
 use Rattle.ppq_load.specs.ppq_counts.Account.{too_heavy}
 use Rattle.ppq_load.specs.ppq_counts.Tally.{Tally, no_tally, last, IsCounting, IsBacked, runs_of, bound_of}
-use Rattle.ppq_load.specs.ppq_queue.Holding.{Holding, IsNewSlot, IsBackedQueue, CountsFew}
+use Rattle.ppq_load.specs.ppq_queue.Holding.{Holding, IsNewSlot, IsSpent, IsBackedQueue, CountsFew}
 use Rattle.ppq_load.proofs.Counting.{stores-backed, few-stores, few-to}
 use Rattle.ppq_engine.specs.Pushes.{pushed_in}
 use Rattle.ppq_engine.specs.Work.{pushes_of, begins_of, pushed_by, begun_by, work_of, IsWithinWork, TransfersFew}
 use Rattle.ppq_load.proofs.ppq_counts.Counted.{bound-more}
 use Rattle.ppq_load.proofs.ppq_queue.Counted.{few-more}
+use Rattle.ppq_load.proofs.ppq_queue.Overreads.{spent_same}
 use Rattle.ppq_engine.proofs.Pushes.{pushed-append}
 use Rattle.ppq_engine.proofs.Results.{not-ok}
 use Rattle.ppq_engine.proofs.Slots.{new-unused}
@@ -131,7 +132,7 @@ module _ {R : Type 0} (w : Words R) (commands : List (Command R)) (sizes : Numbe
   pub transfers-few :
       (q : Holding R) → AreInRange q.sizes → IsWithinWork w commands sizes q
       → (IsCounting q.counts → runs_of q.sizes.workers q.counts < too_heavy → q.sizes.block * all_writes q.slots ≤ bound_of q.sizes.workers q.sizes.block q.counts)
-      → (all_writes q.slots < 2 ^ 63 → all_reads q.slots ≤ all_writes q.slots)
+      → All IsSpent q.slots
       → TransfersFew w commands sizes q.slots
   transfers-few q range work bounded read =
       let same = work.sizes_are in
@@ -155,7 +156,7 @@ module _ {R : Type 0} (w : Words R) (commands : List (Command R)) (sizes : Numbe
   pub transfers-same : (a b : List Shown) → SameSums a b → TransfersFew w commands sizes a → TransfersFew w commands sizes b
   transfers-same a b same few = record {
     writes = λ counting light. subst (λ (n : ℕ). sizes.block * n ≤ bound_of sizes.workers sizes.block (work_of w sizes commands)) (same (λ s. s.writes)) (few.writes counting light);
-    read = λ exact. omega (arith, few.read (omega (arith, exact, same (λ s. s.writes))), same (λ s. s.writes), same (λ s. s.reads));
+    read = spent_same a b same few.read;
   }
 
   -- of new blocks none was written or read
@@ -164,5 +165,5 @@ module _ {R : Type 0} (w : Words R) (commands : List (Command R)) (sizes : Numbe
       let none = new-unused bytes slots fresh in
       record {
         writes = λ counting light. omega (arith, ap (λ (n : ℕ). sizes.block * n) none.0);
-        read = λ exact. omega (arith, none.1);
+        read = none.1;
       }

@@ -20,6 +20,7 @@ pub mod Popped
 pub mod Pops
 pub mod Pushes
 pub mod Results
+pub mod Returned
 pub mod Running
 pub mod Sizes
 pub mod Slots

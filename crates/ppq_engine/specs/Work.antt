@@ -1,15 +1,15 @@
 -- How many records the commands of a script push and how many sessions they begin, and how few blocks are written and read for that.
-use Rattle.std.specs.Prelude.{◌≡◌, ℕ, ◌*◌, ◌/◌, ◌^◌, ◌≤◌, ◌<◌, List, sum_by}
+use Rattle.std.specs.Prelude.{◌≡◌, ℕ, ◌*◌, ◌/◌, ◌^◌, ◌≤◌, ◌<◌, List, All, sum_by}
 use Rattle.std.specs.Int.{div_ceil}
 use Rattle.ppq_script.specs.Words.{Words}
 use Rattle.ppq_script.specs.ppq_outside.Shown.{Shown}
 use Rattle.ppq_script.specs.declared.command.Command.{Command}
 use Rattle.ppq_script.specs.declared.command.Command.TheVariants.{Push, Pop, Top, Size, Bulk, Gen, BulkPop, BulkPopLimit, Drain, BulkBegin, BulkPush, BulkEnd, LimitBegin, LimitPush, LimitTop, LimitPop, LimitEnd}
 use Rattle.ppq_load.specs.ppq_budget.Sizes.{Numbers, heap_of}
-use Rattle.ppq_load.specs.ppq_array.Kept.{all_writes, all_reads}
+use Rattle.ppq_load.specs.ppq_array.Kept.{all_writes}
 use Rattle.ppq_load.specs.ppq_counts.Account.{too_heavy}
 use Rattle.ppq_load.specs.ppq_counts.Tally.{Tally, tally, IsCounting, runs_of, bound_of}
-use Rattle.ppq_load.specs.ppq_queue.Holding.{Holding, AreStoresBacked}
+use Rattle.ppq_load.specs.ppq_queue.Holding.{Holding, AreStoresBacked, IsSpent}
 
 -- how many records a command pushes
 abbrev pub pushes_of : {R : Type 0} → Words R → Command R → ℕ
@@ -71,9 +71,9 @@ pub record IsWithinWork {R : Type 0} (w : Words R) (commands : List (Command R))
   pub backed : AreStoresBacked q
 
 -- Blocks were written for these commands: no more than their work allows, as long as it is counted and too few runs come of it to get
--- too heavy; and no more were read than written, as long as the counts of blocks are far from their last value
+-- too heavy; and none was read more often than it was written
 pub record TransfersFew {R : Type 0} (w : Words R) (commands : List (Command R)) (sizes : Numbers) (slots : List Shown) : Type 0 where
   pub writes :
       IsCounting (work_of w sizes commands) → runs_of sizes.workers (work_of w sizes commands) < too_heavy
       → sizes.block * all_writes slots ≤ bound_of sizes.workers sizes.block (work_of w sizes commands)
-  pub read : all_writes slots < 2 ^ 63 → all_reads slots ≤ all_writes slots
+  pub read : All IsSpent slots

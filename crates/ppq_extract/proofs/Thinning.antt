@@ -15,8 +15,8 @@ use Rattle.ppq_fetch.specs.ppq_array.Run.{Run, items_of, buffers_of}
 use Rattle.ppq_fetch.specs.ppq_array.External.{External, size_of, waiting, blocks_items, records_in}
 use Rattle.ppq_fetch.specs.ppq_array.Owner.{slots_shown}
 use Rattle.ppq_fetch.specs.ppq_array.Supply.{Stock}
-use Rattle.ppq_fetch.specs.ppq_array.Kept.{Held, Kept, weight_at}
-use Rattle.ppq_fetch.specs.ppq_array.Holdings.{external_slots, external_buffers, internal_buffers, RunHasBlock, ArrayHasSize}
+use Rattle.ppq_fetch.specs.ppq_array.Kept.{Held, Kept, weight_at, overread}
+use Rattle.ppq_fetch.specs.ppq_array.Holdings.{external_slots, external_buffers, internal_buffers, RunHasBlock, HasSlots}
 use Rattle.ppq_fetch.specs.Taking.{IsTaken}
 use Rattle.ppq_fetch.specs.Fetching.{state, one_if_some, IsFitting, loaded_lists, count_in, fronts_in, blocks_in, waiting_items, source_items, RunsRise, held_in, slots_in, AreSources, MayFetch}
 use Rattle.ppq_extract.specs.Emptied.{LostOnly, IsEmptyRun, IsEmptyArray}
@@ -101,6 +101,8 @@ module _ {S R : Type 0} (mi ni : List (Run R)) (me ne : List (External S R)) (li
             faults = λ n. omega (arith, same (weight_at (λ s. s.faults) n), k.slots.faults n);
             writes = λ n. omega (arith, same (weight_at (λ s. s.writes) n), k.slots.writes n);
             reads = λ n. omega (arith, same (weight_at (λ s. s.reads) n), k.slots.reads n);
+            sizes = λ n. same (weight_at (λ s. s.size) n) ∙ k.slots.sizes n;
+            overreads = omega (arith, same overread, k.slots.overreads);
           };
           slot_room = omega (arith, k.slot_room, same_length (external_slots shown me) (external_slots shown ne) (thin_slots shown));
           buffers = omega (arith, k.buffers, thin_internal_buffers, thin_buffers);
@@ -114,7 +116,7 @@ module _ {S R : Type 0} (mi ni : List (Run R)) (me ne : List (External S R)) (li
     thin_sources width ahead a = record {
       idle = a.idle;
       internal = All_lost IsEmptyRun mi ni li (RunHasBlock stock.block) a.internal;
-      external = All_lost IsEmptyArray me ne le (ArrayHasSize shown (stock.block * width)) a.external;
+      external = All_lost IsEmptyArray me ne le (HasSlots shown (stock.block * width)) a.external;
       loaded = All_lost IsEmptyArray me ne le (λ (a : External S R). RunHasBlock stock.block a.loaded) a.loaded;
       fitting = All_lost IsEmptyArray me ne le (λ (a : External S R). All IsFitting (buffers_of a.loaded)) a.fitting;
       internal_fitting = All_lost IsEmptyRun mi ni li (λ (run : Run R). All IsFitting (buffers_of run)) a.internal_fitting;

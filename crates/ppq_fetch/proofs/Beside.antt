@@ -14,8 +14,8 @@ use Rattle.ppq_array.specs.declared.berth.DeviceBlock.{DeviceBlock}
 use Rattle.ppq_array.specs.Run.{Run, items_of, buffers_of}
 use Rattle.ppq_array.specs.External.{External, size_of, waiting, counts}
 use Rattle.ppq_array.specs.Supply.{Stock}
-use Rattle.ppq_array.specs.Owner.{HasBlock, HasSize}
-use Rattle.ppq_array.specs.Holdings.{external_buffers, ArrayHasSize}
+use Rattle.ppq_array.specs.Owner.{HasBlock, HasSlot}
+use Rattle.ppq_array.specs.Holdings.{external_buffers, HasSlots}
 use Rattle.ppq_lane.specs.Jobs.{MayRun, IsDone}
 use Rattle.ppq_lane.specs.declared.job.Job.{Job}
 use Rattle.ppq_merge.specs.ppq_split.Cut.{AreWithin}
@@ -123,8 +123,8 @@ module _ {S R : Type 0} where
 module _ {S R : Type 0} (bytes_of : R → List ℕ) (record_of : List ℕ → R) (width : ℕ) (shown : S → Shown) where
   -- a run whose first block was lifted, in a state in which nothing of it was
   module _ (ahead : ℕ) (s : State S R) (sources : AreSources shown width ahead s) (i : ℕ) (d m : External S R) (idle idle' : List (Block R)) (job : Job (DeviceBlock S R) R) (h : i < length s.external) (lifted : BlockLifted record_of width shown (get_or s.external i d) m idle idle' job) where
-    size : HasSize shown (s.stock.block * width) job.slot
-    size = All-head (HasSize shown (s.stock.block * width)) job.slot m.stored (subst (All (HasSize shown (s.stock.block * width))) lifted.stored (All-get_or (ArrayHasSize shown (s.stock.block * width)) s.external i d h sources.external))
+    size : HasSlot shown (s.stock.block * width) job.slot
+    size = All-head (HasSlot shown (s.stock.block * width)) job.slot m.stored (subst (All (HasSlot shown (s.stock.block * width))) lifted.stored (All-get_or (HasSlots shown (s.stock.block * width)) s.external i d h sources.external))
 
     pub may_read_at : 1 ≤ width → HasBlock s.stock.block job.buf → MayRun width (λ (b : DeviceBlock S R). shown b.slot) job
     may_read_at w has = may_read bytes_of record_of width shown (get_or s.external i d) m idle idle' job lifted s.stock.block w size has

@@ -26,9 +26,9 @@ use Rattle.std.proofs.lemmas.List.Elements.{All-set, All-get_or, All-head, All-t
 use Rattle.ppq_array.specs.ppq_record.Order.{is_before, Ascends}
 use Rattle.ppq_array.specs.ppq_record.Bag.{IsSameBag}
 use Rattle.ppq_array.specs.ppq_record.Runs.{all_of}
-use Rattle.ppq_array.specs.Owner.{HasBlock, HasSize, slots_shown}
-use Rattle.ppq_array.specs.Kept.{AreQuiet, weight_at}
-use Rattle.ppq_array.specs.Holdings.{external_slots, external_buffers, RunHasBlock, ArrayHasSize}
+use Rattle.ppq_array.specs.Owner.{HasBlock, HasSlot, slots_shown}
+use Rattle.ppq_array.specs.Kept.{AreQuiet, weight_at, overread}
+use Rattle.ppq_array.specs.Holdings.{external_slots, external_buffers, RunHasBlock, HasSlots}
 use Rattle.ppq_array.proofs.Noted.{all_left, all_right}
 use Rattle.ppq_fetch.specs.Turns.{HasBuffer}
 use Rattle.ppq_fetch.specs.Fetching.{State, state, AreSources, MayFetch, PartsKept, FetchFailed, SourcesTell, WentOn, IsFitting, fronts_in, one_if_some, loaded_lists, blocks_in, slots_in, waiting_items, source_items}
@@ -45,8 +45,8 @@ count_fits count block width bytes w h e = elim (cases_lt block count) as (λ _.
 ]
 
 module _ {S R : Type 0} (record_of : List ℕ → R) (width : ℕ) (shown : S → Shown) where
-  abbrev slot_read : {T E : Type 0} (answer : Result T E) (block : DeviceBlock S R) (slot : Shown) (bytes : List ℕ) (s t : Stock) → IsRead answer bytes (shown block.slot) slot → slot.reads ≤ (shown block.slot).reads + 1 → GetsSlot s slot t → SlotRead record_of width shown block s t
-  slot_read answer block slot bytes s t r n freed = record {
+  abbrev slot_read : {T E : Type 0} (answer : Result T E) (block : DeviceBlock S R) (slot : Shown) (bytes : List ℕ) (s t : Stock) → IsRead answer bytes (shown block.slot) slot → slot.reads ≤ (shown block.slot).reads + 1 → overread slot ≤ overread (shown block.slot) → GetsSlot s slot t → SlotRead record_of width shown block s t
+  slot_read answer block slot bytes s t r n once freed = record {
     slot = slot;
     told = r.kept;
     number = r.number;
@@ -55,6 +55,7 @@ module _ {S R : Type 0} (record_of : List ℕ → R) (width : ℕ) (shown : S �
     writes = r.writes;
     least_reads = r.reads.later;
     reads = n;
+    once = once;
     freed = freed;
   }
 
@@ -98,7 +99,7 @@ module _ {S R : Type 0} (record_of : List ℕ → R) (width : ℕ) (shown : S �
         array = brest ∙ (ap (λ k. external k b.loaded (drop 1 m.lifted) m.stored) lv ∙ (ap (λ k. external a.level k (drop 1 m.lifted) m.stored) ld ∙ (ap (λ k. external a.level (run_of (a.loaded.live ++ buf' ∷ []) a.loaded.taken a.loaded.spent) (drop 1 k) m.stored) lif ∙ ap (λ k. external a.level (run_of (a.loaded.live ++ buf' ∷ []) a.loaded.taken a.loaded.spent) [] k) (sym bs))));
         items = items ∙ ap (λ (z : Run R). items_of z ++ buf'.items) ml;
         same = λ tells. same (subst (FirstTells record_of width shown) (sym lif) tells) ∙ ap₂ (λ (z : Run R) w. items_of z ++ blocks_items record_of width shown w) ml wait;
-        read = slot_read answer block slot r.bytes s t r.read (omega (arith, once)) freed;
+        read = slot_read answer block slot r.bytes s t r.read (omega (arith, once)) (omega (arith, once, r.read.writes, labelled.unread)) freed;
         quiet = IfOk-at_ok (λ _. slot.faults ≡ (shown block.slot).faults) e r.read.cause.ok;
       }
 
@@ -122,7 +123,7 @@ module _ {S R : Type 0} (record_of : List ℕ → R) (width : ℕ) (shown : S �
         room = ap (λ (b : Block R). b.block) is;
         array = mrest ∙ ap (λ xs. external a.level a.loaded (xs ++ block ∷ []) m.stored) none;
         named = named ∙ r.read.number;
-        read = slot_read answer block slot r.bytes s t r.read (omega (arith, still)) freed;
+        read = slot_read answer block slot r.bytes s t r.read (omega (arith, still)) (omega (arith, still, r.read.writes)) freed;
         failed = some;
       }
 
@@ -136,6 +137,9 @@ weight_le f n a b e h = cond_le (a.number == n) (b.number == n) (ap (λ k. k == 
 
 once_same : (n : ℕ) (a b : Shown) → b.number ≡ a.number → weight_at (λ s. 1) n b ≡ weight_at (λ s. 1) n a
 once_same n a b e = ap (λ k. cond (k == n) 1 0) e
+
+size_same : (n : ℕ) (a b : Shown) → b.number ≡ a.number → b.size ≡ a.size → weight_at (λ s. s.size) n b ≡ weight_at (λ s. s.size) n a
+size_same n a b e f = ap₂ (λ k z. cond (k == n) z 0) e f
 
 named : (number : ℕ) (s : Shown) → number ≡ s.number → weight_at (λ s. s.faults) number s ≡ s.faults
 named number s e = ap (λ v. cond v s.faults 0) (eq-eqb s.number number (sym e))
@@ -233,6 +237,8 @@ module _ {S R : Type 0} (record_of : List ℕ → R) (width : ℕ) (shown : S �
                 faults = λ n. omega (arith, all_set (weight_at (λ s. s.faults) n), weight_le (λ s. s.faults) n (shown block.slot) read.slot read.number read.faults);
                 writes = λ n. omega (arith, all_set (weight_at (λ s. s.writes) n), weight_le (λ s. s.writes) n (shown block.slot) read.slot read.number (omega (arith, read.writes)));
                 reads = λ n. omega (arith, all_set (weight_at (λ s. s.reads) n), weight_le (λ s. s.reads) n (shown block.slot) read.slot read.number read.least_reads);
+                sizes = λ n. omega (arith, all_set (weight_at (λ s. s.size) n), size_same n (shown block.slot) read.slot read.number read.size);
+                overreads = omega (arith, all_set overread, read.once);
               };
               slot_room = omega (arith, n1, n2, blocks_set, room, ap (λ (s : Stock). s.slot_room) read.freed);
               buffers = omega (arith, few, set_sum (λ (a : External S R). length (buffers_of a.loaded)), ap (λ (s : Stock). s.buffer_room) read.freed);
@@ -270,11 +276,11 @@ module _ {S R : Type 0} (record_of : List ℕ → R) (width : ℕ) (shown : S �
           let n = stock.block in
           let n1 = slots_long arrays in
           let n2 = slots_long (slice_set arrays i b) in
-          let sizes : ArrayHasSize shown (n * width) b = All-tail (HasSize shown (n * width)) block b.stored (subst (All (HasSize shown (n * width))) stored (All-get_or (ArrayHasSize shown (n * width)) arrays i d h s.external)) in
+          let sizes : HasSlots shown (n * width) b = All-tail (HasSlot shown (n * width)) block b.stored (subst (All (HasSlot shown (n * width))) stored (All-get_or (HasSlots shown (n * width)) arrays i d h s.external)) in
           record {
             idle = subst (λ k. All (HasBlock k) idle') (sym be) good;
             internal = subst (λ k. All (RunHasBlock k) internal) (sym be) s.internal;
-            external = subst (λ k. All (ArrayHasSize shown (k * width)) (slice_set arrays i b)) (sym be) (All-set (ArrayHasSize shown (n * width)) arrays i b sizes s.external);
+            external = subst (λ k. All (HasSlots shown (k * width)) (slice_set arrays i b)) (sym be) (All-set (HasSlots shown (n * width)) arrays i b sizes s.external);
             loaded = subst (λ k. All (λ (a : External S R). RunHasBlock k a.loaded) (slice_set arrays i b)) (sym be) (All-set (λ (a : External S R). RunHasBlock n a.loaded) arrays i b has s.loaded);
             fitting = All-set (λ (a : External S R). All IsFitting (buffers_of a.loaded)) arrays i b fits s.fitting;
             internal_fitting = s.internal_fitting;
@@ -313,8 +319,8 @@ module _ {S R : Type 0} (record_of : List ℕ → R) (width : ℕ) (shown : S �
           let n = stock.block in
           let idles = subst (All (HasBlock n)) x.taken s.idle in
           let has : x.filled.block ≡ n = x.room ∙ All-head (HasBlock n) x.buf idle' idles in
-          let size = All-head (HasSize shown (n * width)) x.block b.stored (subst (All (HasSize shown (n * width))) x.stored (All-get_or (ArrayHasSize shown (n * width)) arrays i d h s.external)) in
-          let fit : length x.filled.items ≤ x.filled.block = omega (arith, x.count, count_fits x.block.count x.filled.block width (shown x.block.slot).size w x.fits (size ∙ ap (λ k. k * width) (sym has))) in
+          let size = All-head (HasSlot shown (n * width)) x.block b.stored (subst (All (HasSlot shown (n * width))) x.stored (All-get_or (HasSlots shown (n * width)) arrays i d h s.external)) in
+          let fit : length x.filled.items ≤ x.filled.block = omega (arith, x.count, count_fits x.block.count x.filled.block width (shown x.block.slot).size w x.fits (size.size ∙ ap (λ k. k * width) (sym has))) in
           let spent : b.loaded.spent ≡ [] = ap (λ (z : External S R). z.loaded.spent) x.array ∙ each_at (λ (a : External S R). a.loaded.spent ≡ []) arrays i d h s.external_spent in
           let more : buffers_of b.loaded ≡ a.loaded.spent ++ (a.loaded.live ++ x.filled ∷ []) = ap (λ (z : External S R). buffers_of z.loaded) x.array in
           let had = All-get_or (λ (a : External S R). RunHasBlock n a.loaded) arrays i d h s.loaded in

@@ -7,7 +7,7 @@ use Rattle.std.proofs.lemmas.List.Elements.{All-get_or, All-from_recursion}
 use Rattle.ppq_array.specs.ppq_outside.Shown.{Shown}
 use Rattle.ppq_array.specs.Run.{items_of, buffers_of}
 use Rattle.ppq_array.specs.External.{External}
-use Rattle.ppq_array.specs.Holdings.{ArrayHasSize}
+use Rattle.ppq_array.specs.Holdings.{HasSlots}
 use Rattle.ppq_fetch.specs.Steps.{MayLoad}
 use Rattle.ppq_fetch.specs.Turns.{HasBuffer, LoadsNext}
 use Rattle.ppq_fetch.specs.Fetching.{State, MayFetch, fronts_in, one_if_some}
@@ -43,7 +43,7 @@ module _ {S R : Type 0} where
           blocks = h.idle;
           few = omega (arith, h.few_buffers);
         };
-        sizes = All-get_or (ArrayHasSize shown (s.stock.block * width)) s.external at d below h.external;
+        sizes = All-get_or (HasSlots shown (s.stock.block * width)) s.external at d below h.external;
         room = omega (arith, h.takes_back.slots, slots_long record_of width shown s.external, get_or-le-sum_by (λ (a : External S R). length a.stored) s.external at d below, some);
         few = omega (arith, h.few_buffers, get_or-le-sum_by (λ (a : External S R). length (buffers_of a.loaded)) s.external at d below);
       }

@@ -13,7 +13,7 @@ use Rattle.ppq_array.specs.ppq_record.Bag.{front}
 use Rattle.ppq_array.proofs.ppq_record.Order.{Each-append}
 use Rattle.ppq_array.specs.ppq_outside.Shown.{Shown}
 use Rattle.ppq_array.specs.Supply.{Stock}
-use Rattle.ppq_array.specs.Kept.{Kept, SameSlots, Held, weight_at}
+use Rattle.ppq_array.specs.Kept.{Kept, SameSlots, Held, weight_at, overread}
 use Rattle.ppq_fetch.specs.Taking.{AllBelow, NoneBelow, wanted}
 use Rattle.ppq_fetch.proofs.Parted.{taken_none, taken_more, taken_wanted}
 
@@ -79,7 +79,7 @@ pub long_three : {X : Type 0} (a b c : List X) → length (a ++ b ++ c) ≡ leng
 long_three a b c = omega (arith, length-append (a ++ b) c, length-append a b)
 
 pub same_slots : (xs : List Shown) → SameSlots xs xs
-same_slots xs = record { length = refl; each_once = λ n. refl; faults = λ n. omega arith; writes = λ n. omega arith; reads = λ n. omega arith }
+same_slots xs = record { length = refl; each_once = λ n. refl; faults = λ n. omega arith; writes = λ n. omega arith; reads = λ n. omega arith; sizes = λ n. refl; overreads = omega arith }
 
 Kept-refl : (s : Stock) (h : Held) → Kept s s h h
 Kept-refl s h = record { slots = same_slots (h.slots ++ s.kept ++ s.drawn); slot_room = refl; buffers = refl; block = refl }
@@ -95,6 +95,8 @@ Kept-trans a b c x y z h k =
         faults = λ n. omega (arith, s.faults n, t.faults n, turned (weight_at (λ s. s.faults) n));
         writes = λ n. omega (arith, s.writes n, t.writes n, turned (weight_at (λ s. s.writes) n));
         reads = λ n. omega (arith, s.reads n, t.reads n, turned (weight_at (λ s. s.reads) n));
+        sizes = λ n. omega (arith, s.sizes n, t.sizes n, turned (weight_at (λ s. s.size) n));
+        overreads = omega (arith, s.overreads, t.overreads, turned overread);
       };
       slot_room = omega (arith, h.slot_room, k.slot_room);
       buffers = omega (arith, h.buffers, k.buffers);

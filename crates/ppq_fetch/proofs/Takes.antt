@@ -18,9 +18,9 @@ use Rattle.ppq_array.specs.Run.{Run, items_of, buffers_of}
 use Rattle.ppq_array.specs.declared.berth.DeviceBlock.{DeviceBlock}
 use Rattle.ppq_array.specs.External.{External, waiting, records_in, blocks_items, counts}
 use Rattle.ppq_array.specs.Supply.{Stock}
-use Rattle.ppq_array.specs.Owner.{HasBlock, HasSize, slots_shown}
+use Rattle.ppq_array.specs.Owner.{HasBlock, HasSlot, slots_shown}
 use Rattle.ppq_array.specs.Kept.{SameSlots, AreQuiet}
-use Rattle.ppq_array.specs.Holdings.{external_slots, RunHasBlock, ArrayHasSize}
+use Rattle.ppq_array.specs.Holdings.{external_slots, RunHasBlock, HasSlots}
 use Rattle.ppq_merge.specs.ppq_split.Cut.{AreWithin}
 use Rattle.ppq_merge.specs.Parts.{before, after}
 use Rattle.ppq_fetch.specs.Edges.{is_within, IsSafeEdge}
@@ -221,8 +221,8 @@ module _ {S R : Type 0} where
             sources = record {
               idle = subst (λ k. All (HasBlock k) idle') (sym be) (All-from_recursion (HasBlock b) idle' each.0);
               internal = subst (λ k. All (RunHasBlock k) internal') (sym be) (All-from_recursion (RunHasBlock b) internal' (gone.runs.blocks b (recursion_from_All (RunHasBlock b) internal s.internal)));
-              external = subst (λ k. All (ArrayHasSize shown (k * width)) arrays') (sym be)
-                  (All-from_recursion (ArrayHasSize shown (b * width)) arrays' (zip_each SameBlocks (ArrayHasSize shown (b * width)) (λ x y e h. subst (All (HasSize shown (b * width))) (sym (same_stored x y e)) h) arrays arrays' gone.arrays.rest (recursion_from_All (ArrayHasSize shown (b * width)) arrays s.external)));
+              external = subst (λ k. All (HasSlots shown (k * width)) arrays') (sym be)
+                  (All-from_recursion (HasSlots shown (b * width)) arrays' (zip_each SameBlocks (HasSlots shown (b * width)) (λ x y e h. subst (All (HasSlot shown (b * width))) (sym (same_stored x y e)) h) arrays arrays' gone.arrays.rest (recursion_from_All (HasSlots shown (b * width)) arrays s.external)));
               loaded = subst (λ k. All (λ (a : External S R). RunHasBlock k a.loaded) arrays') (sym be) (All-from_recursion (λ (a : External S R). RunHasBlock b a.loaded) arrays' each.1);
               fitting = All-from_recursion (λ (a : External S R). All IsFitting (buffers_of a.loaded)) arrays' (gone.arrays.fitting (recursion_from_All (λ (a : External S R). All IsFitting (buffers_of a.loaded)) arrays s.fitting));
               internal_fitting = All-from_recursion (λ (run : Run R). All IsFitting (buffers_of run)) internal' (gone.runs.fitting (recursion_from_All (λ (run : Run R). All IsFitting (buffers_of run)) internal s.internal_fitting));

@@ -6,7 +6,7 @@ use Rattle.ppq_array.specs.ppq_outside.declared.fault.Failed.{Failed}
 use Rattle.ppq_array.specs.declared.berth.DeviceBlock.{DeviceBlock}
 use Rattle.ppq_array.specs.Run.{run_of, items_of, buffers_of}
 use Rattle.ppq_array.specs.External.{External, external, records_in, Accepts, FirstTells, IsLabelled}
-use Rattle.ppq_array.specs.Supply.{Stock, GetsSlot}
+use Rattle.ppq_array.specs.Supply.{Stock, GetsSlot, IsSlot}
 use Rattle.ppq_array.specs.Holdings.{external_buffers}
 use Rattle.ppq_lane.specs.declared.job.Job.{Job}
 use Rattle.ppq_lane.specs.declared.job.JobKind.TheVariants.{Read}
@@ -39,7 +39,7 @@ module _ {S R : Type 0} (record_of : List ℕ → R) (width : ℕ) (shown : S �
     pub done : IsSome job.done
     pub accepts : (u : Unit {0}) → job.done ≡ Some (Ok u) → Accepts record_of width shown a.lifted job.buf
     pub room : 0 < stock.slot_room
-    pub size : (shown job.slot.slot).size ≡ stock.block * width
+    pub slot : IsSlot (stock.block * width) (shown job.slot.slot)
     pub few : length (buffers_of a.loaded) < 2 ^ 32 - 1
 
   -- The block that was lifted first is loaded, and its slot went to the supply

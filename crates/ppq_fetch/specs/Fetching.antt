@@ -11,7 +11,7 @@ use Rattle.ppq_array.specs.External.{External, size_of, records_in, waiting, blo
 use Rattle.ppq_array.specs.Supply.{Stock}
 use Rattle.ppq_array.specs.Owner.{HasBlock}
 use Rattle.ppq_array.specs.Kept.{Held, Kept, HasFailed, AreQuiet, all_writes, all_reads}
-use Rattle.ppq_array.specs.Holdings.{external_slots, external_buffers, internal_buffers, RunHasBlock, ArrayHasSize, CanTakeBack}
+use Rattle.ppq_array.specs.Holdings.{external_slots, external_buffers, internal_buffers, RunHasBlock, HasSlots, CanTakeBack}
 use Rattle.ppq_fetch.specs.Taking.{IsTaken, AllBelow}
 
 -- What records are taken from: runs in buffers, runs in blocks, the idle buffers that blocks are loaded into, and the supply that gets
@@ -109,7 +109,7 @@ module _ {S R : Type 0} where
     pub record AreSources (width ahead : ℕ) (s : State S R) : Type 0 where
       pub idle : All (HasBlock s.stock.block) s.idle
       pub internal : All (RunHasBlock s.stock.block) s.internal
-      pub external : All (ArrayHasSize shown (s.stock.block * width)) s.external
+      pub external : All (HasSlots shown (s.stock.block * width)) s.external
       pub loaded : All (λ a. RunHasBlock s.stock.block a.loaded) s.external
       pub internal_fitting : All (λ (run : Run R). All IsFitting (buffers_of run)) s.internal
       pub fitting : All (λ a. All IsFitting (buffers_of a.loaded)) s.external

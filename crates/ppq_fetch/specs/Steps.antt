@@ -11,7 +11,8 @@ use Rattle.ppq_array.specs.declared.berth.DeviceBlock.{DeviceBlock}
 use Rattle.ppq_array.specs.Run.{Run, run_of, items_of, buffers_of}
 use Rattle.ppq_array.specs.External.{External, external, records_in}
 use Rattle.ppq_array.specs.Supply.{Stock, GetsSlot}
-use Rattle.ppq_array.specs.Owner.{HasBlock, HasSize}
+use Rattle.ppq_array.specs.Owner.{HasBlock, HasSlot}
+use Rattle.ppq_array.specs.Kept.{overread}
 use Rattle.ppq_array.specs.Holdings.{internal_buffers, external_buffers, RunHasBlock}
 use Rattle.ppq_merge.specs.ppq_split.Cut.{AreWithin, total}
 use Rattle.ppq_fetch.specs.Bench.{Marks}
@@ -70,7 +71,7 @@ module _ {S R : Type 0} where
     pub stored : 0 < length a.stored
     pub none_lifted : a.lifted ≡ []
     pub idle : HasIdle stock.block buffers
-    pub sizes : All (HasSize shown (stock.block * width)) a.stored
+    pub sizes : All (HasSlot shown (stock.block * width)) a.stored
     pub room : 0 < stock.slot_room
     pub few : length (buffers_of a.loaded) < 2 ^ 32 - 1
 
@@ -124,6 +125,7 @@ module _ {S R : Type 0} where
       pub writes : slot.writes ≡ (shown block.slot).writes
       pub least_reads : (shown block.slot).reads ≤ slot.reads
       pub reads : slot.reads ≤ (shown block.slot).reads + 1
+      pub once : overread slot ≤ overread (shown block.slot)
       pub freed : GetsSlot before slot now
 
     -- The first stored block of a run was loaded into the first idle buffer

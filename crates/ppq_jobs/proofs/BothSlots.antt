@@ -4,7 +4,7 @@ use Rattle.std.proofs.lemmas.List.{take_all, take-append-le, drop_all, drop-appe
 use Rattle.std.proofs.lemmas.List.Elements.{All-take, All-drop}
 use Rattle.std.proofs.lemmas.List.Sums.{sum_by-append}
 use Rattle.ppq_sweep.specs.ppq_queue.Shown.{Shown}
-use Rattle.ppq_sweep.specs.ppq_queue.Kept.{SameSlots, SameSums, AreQuiet, HasFailed, weight_at}
+use Rattle.ppq_sweep.specs.ppq_queue.Kept.{SameSlots, SameSums, AreQuiet, HasFailed, weight_at, overread}
 use Rattle.ppq_sweep.specs.ppq_queue.Holding.{AreNewSlots, IsNewSlot}
 use Rattle.ppq_event.proofs.ppq_queue.Slots.{SameSums-length}
 use Rattle.ppq_engine.specs.ppq_load.ppq_budget.Sizes.{Numbers}
@@ -36,6 +36,8 @@ module _ (a b a' b' : List Shown) where
     faults = λ n. omega (arith, sum_by-append (weight_at (λ s. s.faults) n) a b, sum_by-append (weight_at (λ s. s.faults) n) a' b', one.faults n, other.faults n);
     writes = λ n. omega (arith, sum_by-append (weight_at (λ s. s.writes) n) a b, sum_by-append (weight_at (λ s. s.writes) n) a' b', one.writes n, other.writes n);
     reads = λ n. omega (arith, sum_by-append (weight_at (λ s. s.reads) n) a b, sum_by-append (weight_at (λ s. s.reads) n) a' b', one.reads n, other.reads n);
+    sizes = λ n. omega (arith, sum_by-append (weight_at (λ s. s.size) n) a b, sum_by-append (weight_at (λ s. s.size) n) a' b', one.sizes n, other.sizes n);
+    overreads = omega (arith, sum_by-append overread a b, sum_by-append overread a' b', one.overreads, other.overreads);
   }
 
 module _ (number : ℕ) (a b : List Shown) where

@@ -11,9 +11,9 @@ use Rattle.ppq_heap.specs.Heap.{Contents}
 use Rattle.ppq_extract.specs.ppq_array.declared.berth.DeviceBlock.{DeviceBlock}
 use Rattle.ppq_extract.specs.ppq_array.Run.{Run, items_of}
 use Rattle.ppq_extract.specs.ppq_array.External.{External, size_of, records_in}
-use Rattle.ppq_extract.specs.ppq_array.Owner.{HasBlock, HasSize, slots_shown}
+use Rattle.ppq_extract.specs.ppq_array.Owner.{HasBlock, HasSlot, slots_shown}
 use Rattle.ppq_extract.specs.ppq_array.Kept.{SameSlots, all_faults, all_writes, all_reads}
-use Rattle.ppq_extract.specs.ppq_array.Holdings.{internal_items, internal_buffers, external_slots, external_buffers, RunHasBlock, ArrayHasSize}
+use Rattle.ppq_extract.specs.ppq_array.Holdings.{internal_items, internal_buffers, external_slots, external_buffers, RunHasBlock, HasSlots}
 use Rattle.ppq_extract.specs.ppq_fetch.Fetching.{count_in}
 use Rattle.ppq_spill.specs.ppq_counts.Tally.{tally}
 use Rattle.ppq_spill.specs.ppq_counts.Account.{IsCountedFrom, tolls, hefts, blocks_of}
@@ -32,18 +32,18 @@ use Rattle.ppq_pass.specs.PassState.{IsPassed, IsSoundPass, IsPassCounted, IsPas
 
 module _ {S R : Type 0} (shown : S → Shown) (cmp : R → R → Ordering) (record_of : List ℕ → R) (width : ℕ) (n : Numbers) (heap : Contents R) (body : PassBody S R) (p : PassParts S R)
     (range : AreInRange n) (new : IsNewBody n.block (pool_of n / n.heap + 1) (n.blocks / n.heap + 1) body) (block : p.block ≡ n.block) (stash : p.stash ≡ []) (dry : p.dry ≡ 0) (scant : p.scant ≡ 0) (undrawn : p.row_seat.hand.places ≡ []) (slots : length p.row_seat.hand.items ≤ n.blocks)
-    (bytes : All (HasSize shown (n.block * width)) p.row_seat.hand.items) (untaken : p.pool_seat.hand.numbers ≡ []) (shape : 0 < count_of p.pool_seat.pool → p.pool_seat.hand.shape ≡ n.block) (numbers : p.numbers.items ≡ []) (room : count_of p.pool_seat.pool ≤ vec_capacity p.numbers)
+    (bytes : All (HasSlot shown (n.block * width)) p.row_seat.hand.items) (untaken : p.pool_seat.hand.numbers ≡ []) (shape : 0 < count_of p.pool_seat.pool → p.pool_seat.hand.shape ≡ n.block) (numbers : p.numbers.items ≡ []) (room : count_of p.pool_seat.pool ≤ vec_capacity p.numbers)
   where
     new_supply : IsPass shown width (shared_of p) p.row_seat p.pool_seat p.stash p.numbers p.block p.dry p.scant
     new_supply =
         record {
           row = refl;
-          items = subst (λ b. All (HasSize shown (b * width)) p.row_seat.hand.items) (sym block) bytes;
+          items = subst (λ b. All (HasSlot shown (b * width)) p.row_seat.hand.items) (sym block) bytes;
           few = omega (arith, slots, range.blocks);
           drawn = subst (All (λ k. k < length p.row_seat.hand.items)) (sym undrawn) (All-nil (λ k. k < length p.row_seat.hand.items));
           once = λ k _. omega (arith, ap length undrawn);
           stash_fits = omega (arith, ap length stash);
-          stash_sizes = subst (All (HasSize shown (p.block * width))) (sym stash) (All-nil (HasSize shown (p.block * width)));
+          stash_sizes = subst (All (HasSlot shown (p.block * width))) (sym stash) (All-nil (HasSlot shown (p.block * width)));
           pool = refl;
           shape = λ some. shape some ∙ sym block;
           numbers_are = numbers ∙ sym untaken;
@@ -81,7 +81,7 @@ module _ {S R : Type 0} (shown : S → Shown) (cmp : R → R → Ordering) (reco
             small = omega (arith, block, range.block);
             idle = subst (λ b. All (HasBlock b) body.lanes.idle) (sym block) new.blocks;
             internal = subst (All (RunHasBlock p.block)) (sym new.no_internal) (All-nil (RunHasBlock p.block));
-            external = subst (All (ArrayHasSize shown (p.block * width))) (sym new.no_external) (All-nil (ArrayHasSize shown (p.block * width)));
+            external = subst (All (HasSlots shown (p.block * width))) (sym new.no_external) (All-nil (HasSlots shown (p.block * width)));
           };
           takes_back = record {
             slots = omega (arith, ap (λ xs. length (external_slots shown xs)) new.no_external);

@@ -8,7 +8,7 @@ use Rattle.std.proofs.lemmas.List.Sums.{sum_by-append}
 use Rattle.ppq_extract.specs.ppq_outside.Shown.{Shown}
 use Rattle.ppq_extract.specs.ppq_array.declared.berth.DeviceBlock.{DeviceBlock}
 use Rattle.ppq_extract.specs.ppq_array.Owner.{slots_shown}
-use Rattle.ppq_extract.specs.ppq_array.Kept.{SameSlots, weight_at, all_writes}
+use Rattle.ppq_extract.specs.ppq_array.Kept.{SameSlots, weight_at, all_writes, overread}
 use Rattle.ppq_spill.specs.declared.body.PassBody.{PassBody}
 use Rattle.ppq_spill.proofs.SameSlots.{SameSlots-refl}
 use Rattle.ppq_row.specs.Known.{Known as RowKnown}
@@ -128,6 +128,8 @@ module _ {S R : Type 0} {shown : S → Shown} {width records : ℕ} {shared : Sh
           faults = λ n. omega (arith, kept.kept.slots.faults n, split (weight_at (λ s. s.faults) n));
           writes = λ n. omega (arith, kept.kept.slots.writes n, split (weight_at (λ s. s.writes) n));
           reads = λ n. omega (arith, kept.kept.slots.reads n, split (weight_at (λ s. s.reads) n));
+          sizes = λ n. omega (arith, kept.kept.slots.sizes n, split (weight_at (λ s. s.size) n));
+          overreads = omega (arith, kept.kept.slots.overreads, split overread);
         }
 
     pub kept_stored :

@@ -6,7 +6,7 @@ use Rattle.std.proofs.lemmas.List.Sums.{sum_by-cons, sum_by-append}
 use Rattle.ppq_extract.specs.ppq_outside.Shown.{Shown, AllTell}
 use Rattle.ppq_extract.specs.ppq_array.declared.berth.DeviceBlock.{DeviceBlock}
 use Rattle.ppq_extract.specs.ppq_array.Owner.{slots_shown}
-use Rattle.ppq_extract.specs.ppq_array.Kept.{SameSlots, AreQuiet, weight_at, all_writes}
+use Rattle.ppq_extract.specs.ppq_array.Kept.{SameSlots, AreQuiet, weight_at, all_writes, overread}
 use Rattle.ppq_spill.specs.Body.{body_slots}
 use Rattle.ppq_spill.specs.declared.body.PassBody.{PassBody}
 use Rattle.ppq_spill.specs.Untold.{untold, SameUntold}
@@ -65,6 +65,8 @@ module _ {S R : Type 0} {shown : S → Shown} {width records : ℕ} {shared : Sh
           faults = λ n. let f = weight_at (λ s. s.faults) n in omega (arith, kept.kept.slots.faults n, was.faults n, (split f).0, (split f).1);
           writes = λ n. let f = weight_at (λ s. s.writes) n in omega (arith, kept.kept.slots.writes n, was.writes n, (split f).0, (split f).1);
           reads = λ n. let f = weight_at (λ s. s.reads) n in omega (arith, kept.kept.slots.reads n, was.reads n, (split f).0, (split f).1);
+          sizes = λ n. let f = weight_at (λ s. s.size) n in omega (arith, kept.kept.slots.sizes n, was.sizes n, (split f).0, (split f).1);
+          overreads = omega (arith, kept.kept.slots.overreads, was.overreads, (split overread).0, (split overread).1);
         }
 
     -- no call of them failed since they were drawn

@@ -17,7 +17,7 @@ use Rattle.ppq_extract.specs.ppq_array.declared.berth.DeviceBlock.{DeviceBlock}
 use Rattle.ppq_extract.specs.ppq_array.Run.{Run, items_of}
 use Rattle.ppq_extract.specs.ppq_array.External.{External, size_of, waiting, counts, records_in}
 use Rattle.ppq_extract.specs.ppq_array.Owner.{slots_shown}
-use Rattle.ppq_extract.specs.ppq_array.Holdings.{internal_items, external_slots, RunHasBlock, ArrayHasSize}
+use Rattle.ppq_extract.specs.ppq_array.Holdings.{internal_items, external_slots, RunHasBlock, HasSlots}
 use Rattle.ppq_extract.specs.ppq_array.Kept.{AreQuiet, all_faults}
 use Rattle.ppq_extract.specs.ppq_lane.declared.job.Job.{Job}
 use Rattle.ppq_spill.specs.Body.{body_slots, job_slots}
@@ -154,13 +154,13 @@ module _ {S R : Type 0} {shown : S → Shown} {cmp : R → R → Ordering} {reco
 
       is_array : IsPassArray shown width n.block (heap_of n) put.array
       is_array =
-          let bytes = ArrayHasSize {R = R} shown ((stock_of shown q).block * width) in
+          let bytes = HasSlots {R = R} shown ((stock_of shown q).block * width) in
           record {
             whole = omega (arith, put.size, at.long);
             level = put.level;
             loaded = put.loaded;
             lifted = put.lifted;
-            size = subst (λ k. ArrayHasSize shown (k * width) put.array) block_now (All-head bytes put.array [] (all_right bytes a.runs.external.items one_array (subst (All bytes) put.external kept.size.external)));
+            size = subst (λ k. HasSlots shown (k * width) put.array) block_now (All-head bytes put.array [] (all_right bytes a.runs.external.items one_array (subst (All bytes) put.external kept.size.external)));
             full = stored_full;
             written = put.written;
           }

@@ -12,7 +12,7 @@ use Rattle.ppq_pool.proofs.ppq_table.Sums.{within_at}
 use Rattle.ppq_pool.proofs.ppq_table.Numbers.{times-cons, times-append, times-same, times-other, upto, upto-times}
 use Rattle.ppq_extract.specs.ppq_outside.Shown.{Shown}
 use Rattle.ppq_extract.specs.ppq_array.Supply.{Stock, DrawsSlot}
-use Rattle.ppq_extract.specs.ppq_array.Owner.{HasSize, slots_shown}
+use Rattle.ppq_extract.specs.ppq_array.Owner.{HasSlot, slots_shown}
 use Rattle.ppq_extract.specs.ppq_array.declared.berth.DeviceBlock.{DeviceBlock}
 use Rattle.ppq_row.specs.Known.{Known as RowKnown}
 use Rattle.ppq_row.specs.Seats.{IsSeatOf as IsRowSeat, Drew, NoneLeft}
@@ -120,11 +120,11 @@ module _ {S R : Type 0} {shown : S → Shown} {width : ℕ} {home : Shared S R} 
     -- with another seat of the row, another stash, or another count of draws that answered None
     with_row :
         (row' : RowKnown (DeviceBlock S R)) (stash' : List (DeviceBlock S R)) (dry' : ℕ) → IsRowSeat home.row row' → row'.hand.items ≡ row.hand.items → All (λ p. p < length row.hand.items) row'.hand.places → ((n : ℕ) → All (λ p. p < n) row'.hand.places → length row'.hand.places ≤ n)
-        → length stash' ≤ length row'.hand.places → All (HasSize shown (block * width)) stash' → (0 < dry' → row'.hand.noted ≡ true) → IsPass shown width home row' pool stash' numbers block dry' scant
+        → length stash' ≤ length row'.hand.places → All (HasSlot shown (block * width)) stash' → (0 < dry' → row'.hand.noted ≡ true) → IsPass shown width home row' pool stash' numbers block dry' scant
     with_row row' stash' dry' seat items drawn once fits sizes ended =
         record {
           row = seat;
-          items = subst (All (HasSize shown (block * width))) (sym items) is.items;
+          items = subst (All (HasSlot shown (block * width))) (sym items) is.items;
           few = subst (λ xs. length xs < 2 ^ 32) (sym items) is.few;
           drawn = subst (λ xs. All (λ p. p < length xs) row'.hand.places) (sym items) drawn;
           once = once;
@@ -140,7 +140,7 @@ module _ {S R : Type 0} {shown : S → Shown} {width : ℕ} {home : Shared S R} 
           looked = is.looked;
         }
 
-    pub IsPass-stash : (stash' : List (DeviceBlock S R)) → length stash' ≤ length row.hand.places → All (HasSize shown (block * width)) stash' → IsPass shown width home row pool stash' numbers block dry scant
+    pub IsPass-stash : (stash' : List (DeviceBlock S R)) → length stash' ≤ length row.hand.places → All (HasSlot shown (block * width)) stash' → IsPass shown width home row pool stash' numbers block dry scant
     IsPass-stash stash' fits sizes = with_row row stash' dry is.row refl is.drawn is.once fits sizes is.ended
 
     pub places_few : length row.hand.places < 2 ^ 32
@@ -148,8 +148,8 @@ module _ {S R : Type 0} {shown : S → Shown} {width : ℕ} {home : Shared S R} 
 
     -- a draw from the row, which comes where the stash is empty
     module _ (row' : RowKnown (DeviceBlock S R)) (stash' : List (DeviceBlock S R)) (seat : IsRowSeat home.row row') (gone : stash' ≡ []) where
-      no_sizes : All (HasSize shown (block * width)) stash'
-      no_sizes = subst (All (HasSize shown (block * width))) (sym gone) (All-nil (HasSize shown (block * width)))
+      no_sizes : All (HasSlot shown (block * width)) stash'
+      no_sizes = subst (All (HasSlot shown (block * width))) (sym gone) (All-nil (HasSlot shown (block * width)))
 
       pub IsPass-drew : (i : ℕ) (x : DeviceBlock S R) → Drew row.hand i x row'.hand → IsPass shown width home row' pool stash' numbers block dry scant
       IsPass-drew i x drew =
@@ -166,8 +166,8 @@ module _ {S R : Type 0} {shown : S → Shown} {width : ℕ} {home : Shared S R} 
           with_row row' stash' dry' seat left.0 (subst (All (λ p. p < length row.hand.items)) (sym left.1) is.drawn) (subst (λ (ps : List ℕ). (n : ℕ) → All (λ p. p < n) ps → length ps ≤ n) (sym left.1) is.once)
           (omega (arith, ap length gone)) no_sizes (λ _. noted)
 
-    pub drew_size : (row' : RowKnown (DeviceBlock S R)) (i : ℕ) (x : DeviceBlock S R) → Drew row.hand i x row'.hand → (shown x.slot).size ≡ block * width
-    drew_size row' i x drew = all_at (HasSize shown (block * width)) row.hand.items i x drew.0 is.items
+    pub drew_slot : (row' : RowKnown (DeviceBlock S R)) (i : ℕ) (x : DeviceBlock S R) → Drew row.hand i x row'.hand → HasSlot shown (block * width) x
+    drew_slot row' i x drew = all_at (HasSlot shown (block * width)) row.hand.items i x drew.0 is.items
 
     -- with other numbers of buffers, or another count of takes that answered None
     with_pool :

@@ -11,7 +11,7 @@ use Rattle.ppq_extract.specs.ppq_array.External.{External, size_of, records_in}
 use Rattle.ppq_extract.specs.ppq_array.Supply.{Stock}
 use Rattle.ppq_extract.specs.ppq_array.Kept.{SameSlots, HasFailed, AreQuiet, all_writes, all_reads}
 use Rattle.ppq_extract.specs.ppq_array.Owner.{slots_shown}
-use Rattle.ppq_extract.specs.ppq_array.Holdings.{RunHasBlock, ArrayHasSize, CanTakeBack}
+use Rattle.ppq_extract.specs.ppq_array.Holdings.{RunHasBlock, HasSlots, CanTakeBack}
 use Rattle.ppq_extract.specs.ppq_fetch.Fetching.{IsFitting, count_in}
 use Rattle.ppq_spill.specs.ppq_counts.Tally.{tally}
 use Rattle.ppq_spill.specs.ppq_counts.Account.{Account, beside, IsCountedFrom}
@@ -47,7 +47,7 @@ module _ {S R : Type 0} where
       pub level : a.level ≡ 0
       pub loaded : a.loaded ≡ run_of [] 0 []
       pub lifted : a.lifted ≡ []
-      pub size : ArrayHasSize shown (block * width) a
+      pub size : HasSlots shown (block * width) a
       pub full : All (λ (b : DeviceBlock S R). b.count ≡ block) a.stored
       pub written : All (λ (b : DeviceBlock S R). 1 ≤ (shown b.slot).writes) a.stored
 

@@ -6,7 +6,7 @@ use Rattle.std.specs.Global.{Global}
 use Rattle.ppq_pool.specs.ppq_table.Sums.{times}
 use Rattle.ppq_extract.specs.ppq_outside.Shown.{Shown}
 use Rattle.ppq_extract.specs.ppq_array.Supply.{Stock}
-use Rattle.ppq_extract.specs.ppq_array.Owner.{slots_shown, HasSize}
+use Rattle.ppq_extract.specs.ppq_array.Owner.{slots_shown, HasSlot}
 use Rattle.ppq_extract.specs.ppq_array.declared.berth.DeviceBlock.{DeviceBlock}
 use Rattle.ppq_row.specs.Known.{Known as RowKnown}
 use Rattle.ppq_row.specs.Seats.{IsSeatOf as IsRowSeat}
@@ -108,12 +108,12 @@ module _ {S R : Type 0} (shown : S → Shown) where
   -- stash has no more slots than were drawn. The numbers are those that the seat of the pool holds, each once, and there is room for all
   pub record IsPass (width : ℕ) (home : Shared S R) (row_seat : RowKnown (DeviceBlock S R)) (pool_seat : PoolKnown (PoolBuf R)) (stash : List (DeviceBlock S R)) (numbers : Vec ℕ Global) (block dry scant : ℕ) : Type 0 where
     pub row : IsRowSeat home.row row_seat
-    pub items : All (HasSize shown (block * width)) row_seat.hand.items
+    pub items : All (HasSlot shown (block * width)) row_seat.hand.items
     pub few : length row_seat.hand.items < 2 ^ 32
     pub drawn : All (λ p. p < length row_seat.hand.items) row_seat.hand.places
     pub once : (n : ℕ) → All (λ p. p < n) row_seat.hand.places → length row_seat.hand.places ≤ n
     pub stash_fits : length stash ≤ length row_seat.hand.places
-    pub stash_sizes : All (HasSize shown (block * width)) stash
+    pub stash_sizes : All (HasSlot shown (block * width)) stash
     pub pool : IsPoolSeat home.pool pool_seat
     pub shape : 0 < count_of home.pool → pool_seat.hand.shape ≡ block
     pub numbers_are : numbers.items ≡ pool_seat.hand.numbers

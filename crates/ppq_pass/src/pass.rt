@@ -2,7 +2,7 @@
 ghost use Rattle.std.specs.Prelude.{◌≡◌, ◌<◌, ◌≤◌, ◌+◌, ◌*◌, ◌/◌, ◌↔◌, ◌∷◌, [], ℕ, length, All, Some, None, Err, IsOk, IsErr, IfErr, OnOk, OnErr, vec_capacity};
 ghost use Rattle.ppq_pool.specs.ppq_record.Bag.{IsSameBag};
 ghost use Rattle.ppq_extract.specs.ppq_budget.Sizes.{heap_of, pool_of};
-ghost use Rattle.ppq_extract.specs.ppq_array.Owner.{HasSize};
+ghost use Rattle.ppq_extract.specs.ppq_array.Owner.{HasSlot};
 ghost use Rattle.ppq_spill.specs.Body.{IsNewBody};
 ghost use Rattle.ppq_pool.specs.Seats.{count_of};
 ghost use Rattle.ppq_pass.specs.Passed.{IsOf, PassTells, KeptSlots, PutAfterStore, PushKeeps, CountsPassPush, with_one, IsRefusedPush, IsKnown, holding_of, new_holding};
@@ -82,7 +82,7 @@ impl<S: Slot, R: Record> Pass<S, R> {
         requires body { IsNewBody sizes.block (pool_of sizes / sizes.heap + 1) (sizes.blocks / sizes.heap + 1) body }
         requires undrawn { row_seat.hand.places ≡ [] }
         requires slots { length row_seat.hand.items ≤ sizes.blocks }
-        requires bytes { All (HasSize S.shown (sizes.block * R.WIDTH)) row_seat.hand.items }
+        requires bytes { All (HasSlot S.shown (sizes.block * R.WIDTH)) row_seat.hand.items }
         requires untaken { pool_seat.hand.numbers ≡ [] }
         requires shape { 0 < count_of pool_seat.pool → pool_seat.hand.shape ≡ sizes.block }
         requires buffers { count_of pool_seat.pool ≤ pool_of sizes }

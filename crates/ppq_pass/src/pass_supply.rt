@@ -2,7 +2,7 @@
 ghost use Rattle.std.specs.Prelude.{◌≡◌, ◌<◌, ◌≤◌, ◌*◌, ◌^◌, [], length, All, nat_lt, vec_capacity};
 ghost use Rattle.ppq_row.specs.Seats.{IsSeatOf as IsRowSeat};
 ghost use Rattle.ppq_pool.specs.Seats.{IsSeatOf as IsPoolSeat, count_of};
-ghost use Rattle.ppq_extract.specs.ppq_array.Owner.{HasSize};
+ghost use Rattle.ppq_extract.specs.ppq_array.Owner.{HasSlot};
 ghost use Rattle.ppq_pass.specs.Passing.{passing, steps_of, IsPass, IsWasDry, IsSince, new_pass};
 
 use crate::{PassHome, PassParts, PoolBuf, Shared};
@@ -75,7 +75,7 @@ impl<'a, S: Slot, R: Record> PassSupply<'a, S, R> {
         requires row { IsRowSeat shared.now.row row_seat }
         requires undrawn { row_seat.hand.places ≡ [] }
         requires few { length row_seat.hand.items < 2 ^ 32 }
-        requires sizes { All (HasSize S.shown (block * R.WIDTH)) row_seat.hand.items }
+        requires sizes { All (HasSlot S.shown (block * R.WIDTH)) row_seat.hand.items }
         requires pool { IsPoolSeat shared.now.pool pool_seat }
         requires untaken { pool_seat.hand.numbers ≡ [] }
         requires shape { 0 < count_of shared.now.pool → pool_seat.hand.shape ≡ block }

@@ -3,7 +3,7 @@ ghost use Rattle.std.specs.Prelude.{◌≡◌, ◌<◌, [], All, length};
 ghost use Rattle.ppq_outside.specs.MemoryDevice.{slot_shown};
 ghost use Rattle.ppq_pass.specs.ppq_row.Seats.{IsSeatOf as IsRowSeat};
 ghost use Rattle.ppq_pass.specs.ppq_pool.Seats.{IsSeatOf as IsPoolSeat, count_of};
-ghost use Rattle.ppq_pass.specs.ppq_array.Owner.{HasSize};
+ghost use Rattle.ppq_pass.specs.ppq_array.Owner.{HasSlot};
 ghost use Rattle.ppq_pass.specs.Passing.{new_pass};
 
 use crate::seats::{Seats, end_shared, seats_of};
@@ -26,7 +26,7 @@ fn supply_of<'a, H: Abort>(
     requires row { IsRowSeat shared.now.row row_seat }
     requires undrawn { row_seat.hand.places ≡ [] }
     requires two { length row_seat.hand.items ≡ 2 }
-    requires bytes { All (HasSize slot_shown 32) row_seat.hand.items }
+    requires bytes { All (HasSlot slot_shown 32) row_seat.hand.items }
     requires pool { IsPoolSeat shared.now.pool pool_seat }
     requires untaken { pool_seat.hand.numbers ≡ [] }
     requires shape { pool_seat.hand.shape ≡ 2 }

@@ -4,7 +4,7 @@ ghost use Rattle.std.specs.Prelude.{◌≡◌, ◌<◌, [], All, length};
 ghost use Rattle.ppq_outside.specs.MemoryDevice.{slot_shown};
 ghost use Rattle.ppq_pass.specs.ppq_budget.Sizes.{numbers};
 ghost use Rattle.ppq_pass.specs.ppq_pool.Seats.{count_of};
-ghost use Rattle.ppq_pass.specs.ppq_array.Owner.{HasSize};
+ghost use Rattle.ppq_pass.specs.ppq_array.Owner.{HasSlot};
 ghost use Rattle.ppq_pass.specs.Passed.{IsOf};
 
 use crate::seats::{Seats, end_shared, seats_of};
@@ -41,7 +41,7 @@ fn pass_of<H: Host + Abort>(
 ) -> Pass<MemSlot, Pair>
     requires undrawn { row_seat.hand.places ≡ [] }
     requires four { length row_seat.hand.items ≡ 4 }
-    requires bytes { All (HasSize slot_shown 32) row_seat.hand.items }
+    requires bytes { All (HasSlot slot_shown 32) row_seat.hand.items }
     requires untaken { pool_seat.hand.numbers ≡ [] }
     requires shape { pool_seat.hand.shape ≡ 2 }
     requires two { count_of pool_seat.pool ≡ 2 }

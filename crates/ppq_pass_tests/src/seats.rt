@@ -4,7 +4,7 @@ ghost use Rattle.ppq_outside.specs.MemoryDevice.{slot_shown};
 ghost use Rattle.ppq_pass.specs.ppq_table.Sums.{all_shares};
 ghost use Rattle.ppq_pass.specs.ppq_row.Seats.{IsSeatOf as IsRowSeat};
 ghost use Rattle.ppq_pass.specs.ppq_pool.Seats.{IsSeatOf as IsPoolSeat, count_of};
-ghost use Rattle.ppq_pass.specs.ppq_array.Owner.{HasSize};
+ghost use Rattle.ppq_pass.specs.ppq_array.Owner.{HasSlot};
 
 use ppq_block::BlockBuf;
 use ppq_outside::{MemRack, MemSlot, Rack};
@@ -25,7 +25,7 @@ pub fn end_shared(_shared: Shared<MemSlot, Pair>) {}
 // So many slots, in boxes, with the numbers from 0 on.
 fn berths<H: Host + Abort>(rt: &H, alloc: Global, count: u32) -> Vec<Berth<MemSlot, Pair>>
     ensures count { length result.items ≡ count }
-    ensures bytes { All (HasSize slot_shown 32) result.items }
+    ensures bytes { All (HasSlot slot_shown 32) result.items }
 {
     let mut rack = MemRack::new();
     let mut berths = Vec::new(alloc);
@@ -56,7 +56,7 @@ pub fn seats_of<H: Host + Abort>(rt: &H, alloc: Global, slots: u32) -> Seats
     ensures row { IsRowSeat result.shared.row result.row_seat }
     ensures undrawn { result.row_seat.hand.places ≡ [] }
     ensures count { length result.row_seat.hand.items ≡ slots }
-    ensures bytes { All (HasSize slot_shown 32) result.row_seat.hand.items }
+    ensures bytes { All (HasSlot slot_shown 32) result.row_seat.hand.items }
     ensures row_shares { result.row_seat.hand.shares ≡ all_shares }
     ensures pool { IsPoolSeat result.shared.pool result.pool_seat }
     ensures untaken { result.pool_seat.hand.numbers ≡ [] }

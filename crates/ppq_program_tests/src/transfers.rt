@@ -203,7 +203,9 @@ where
     let written = few.writes.saturating_mul(sizes.block);
     let bound = sizes.bound(script);
     assert!(rt; written <= bound, "{written} of {bound}: {}", sizes.words);
-    assert!(rt; few.reads <= few.writes, "{}", sizes.words);
+    for block in &ended.blocks {
+        assert!(rt; block.reads() <= block.writes(), "{}", sizes.words);
+    }
     (few, ended.end)
 }
 

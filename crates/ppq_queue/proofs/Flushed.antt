@@ -40,6 +40,7 @@ module _ {S R : Type 0} {shown : S → Shown} {n : Numbers} where
         held = omega (arith, kept.held, is.held);
         pool = kept.all_buffers ∙ is.pool;
         slots = kept.slots.length ∙ is.slots;
+        overreads = omega (arith, kept.slots.overreads, is.overreads);
         no_row = no_row;
         counted = counted;
         most = most;

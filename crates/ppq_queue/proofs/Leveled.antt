@@ -18,7 +18,7 @@ use Rattle.ppq_extract.specs.ppq_array.External.{External, size_of, records_in, 
 use Rattle.ppq_extract.specs.ppq_array.Owner.{slots_shown}
 use Rattle.ppq_extract.specs.ppq_array.Supply.{Stock}
 use Rattle.ppq_extract.specs.ppq_array.Kept.{Kept, SameSlots, all_writes}
-use Rattle.ppq_extract.specs.ppq_array.Holdings.{internal_items, internal_buffers, external_buffers, external_slots, ArrayHasSize}
+use Rattle.ppq_extract.specs.ppq_array.Holdings.{internal_items, internal_buffers, external_buffers, external_slots, HasSlots}
 use Rattle.ppq_extract.proofs.ppq_array.Noted.{all_left, all_right}
 use Rattle.ppq_extract.specs.ppq_fetch.Fetching.{IsFitting, fronts_in, one_if_some}
 use Rattle.ppq_spill.specs.Leveling.{MayLevel, AreOneSize, LanesStay, LevelTells, LevelMerged, NoneForLevel, HasLevel, count_level, records_count, held_in, arrays_before, arrays_after}
@@ -170,7 +170,7 @@ module _ {S R : Type 0} (shown : S → Shown) where
 
         made_rest : IsRestingArray shown width t.block m.made
         made_rest =
-            let bytes = ArrayHasSize {R = R} shown (t.block * width) in
+            let bytes = HasSlots {R = R} shown (t.block * width) in
             record {
               some = omega (arith, m.size, m.of.eight, records_some m.inputs inputs_rest);
               level = omega (arith, m.level_is);

@@ -15,6 +15,7 @@ pub mod Amounts
 pub mod Odd
 pub mod Paying
 pub mod Bounds
+pub mod Overreads
 pub mod Used
 pub mod Moves
 pub mod Stored

@@ -17,10 +17,10 @@ use Rattle.ppq_extract.specs.ppq_budget.Sizes.{Numbers, AreInRange, fixed_of, po
 use Rattle.ppq_extract.specs.ppq_block.Block.{Block, holding}
 use Rattle.ppq_extract.specs.ppq_array.Run.{Run, items_of}
 use Rattle.ppq_extract.specs.ppq_array.External.{External, size_of, records_in}
-use Rattle.ppq_extract.specs.ppq_array.Supply.{Stock}
+use Rattle.ppq_extract.specs.ppq_array.Supply.{Stock, IsSlot}
 use Rattle.ppq_extract.specs.ppq_array.Owner.{HasBlock}
 use Rattle.ppq_extract.specs.ppq_array.Holdings.{internal_items, internal_buffers, external_buffers, external_slots}
-use Rattle.ppq_extract.specs.ppq_array.Kept.{all_writes, all_reads}
+use Rattle.ppq_extract.specs.ppq_array.Kept.{all_writes, all_reads, overread, all_overreads}
 use Rattle.ppq_extract.specs.ppq_fetch.Fetching.{fronts_in, count_in}
 use Rattle.ppq_extract.specs.ppq_fetch.Taking.{NoneAfter}
 use Rattle.ppq_spill.specs.Body.{job_slots}
@@ -38,6 +38,10 @@ new_writes bytes (x ∷ xs) all = omega (arith, sum_by-cons (λ (s : Shown). s.w
 new_reads : (bytes : ℕ) (xs : List Shown) → All (IsNewSlot bytes) xs → all_reads xs ≡ 0
 new_reads bytes [] all = refl
 new_reads bytes (x ∷ xs) all = omega (arith, sum_by-cons (λ (s : Shown). s.reads) x xs, (All-head (IsNewSlot bytes) x xs all).no_read, new_reads bytes xs (All-tail (IsNewSlot bytes) x xs all))
+
+new_overreads : (bytes : ℕ) (xs : List Shown) → All (IsNewSlot bytes) xs → all_overreads xs ≡ 0
+new_overreads bytes [] all = refl
+new_overreads bytes (x ∷ xs) all = omega (arith, sum_by-cons overread x xs, (All-head (IsNewSlot bytes) x xs all).no_read, new_overreads bytes xs (All-tail (IsNewSlot bytes) x xs all))
 
 module _ {S R : Type 0} (shown : S → Shown) (n : Numbers) (parts : Parts S R) (is : AreNewParts n parts) (slots : List Shown) (stock : Stock) (e : stock ≡ with_slots parts.store.supply slots (parts.store.supply.slot_room - length slots)) (count : length slots ≡ n.blocks) where
   kept_is : stock.kept ≡ slots
@@ -123,8 +127,8 @@ module _ {S R : Type 0} (shown : S → Shown) (n : Numbers) (parts : Parts S R) 
           serves = is.serves;
         }
 
-  pub queue-opened : AreInRange n → fixed_of n ≤ n.memory → IsQueue shown n parts.heaps parts.store.extract parts.store.body stock 0 0 None
-  queue-opened range budget =
+  pub queue-opened : {bytes : ℕ} → All (IsNewSlot bytes) slots → AreInRange n → fixed_of n ≤ n.memory → IsQueue shown n parts.heaps parts.store.extract parts.store.body stock 0 0 None
+  queue-opened {bytes} fresh range budget =
       let none = ap (λ x. x.items) is.extract in
       record {
         range = range;
@@ -137,6 +141,7 @@ module _ {S R : Type 0} (shown : S → Shown) (n : Numbers) (parts : Parts S R) 
         held = omega (arith, is.body.idle, internal_none, external_none, none_out, ap length is.body.no_job);
         pool = omega (arith, sure_is, none_out);
         slots = ap length slots-opened ∙ count;
+        overreads = ap all_overreads slots-opened ∙ new_overreads bytes slots fresh;
         no_row = ap (λ s. s.drawn) e ∙ ap (λ s. s.drawn) is.supply;
         counted = omega arith;
         most = omega arith;
@@ -148,10 +153,12 @@ module _ {S R : Type 0} (shown : S → Shown) (n : Numbers) (parts : Parts S R) 
       no_fault number h = cc
 
 module _ {S : Type 0} (shown : S → Shown) (bytes : ℕ) where
-  -- the slots that came have so many bytes
-  pub slot_sizes : (xs : List S) → All (IsNewSlot bytes) (map shown xs) → All (λ s. (shown s).size ≡ bytes) xs
-  slot_sizes [] all = λ k d h. absurd (omega arith)
-  slot_sizes (x ∷ xs) all = All-cons (λ s. (shown s).size ≡ bytes) x xs (All-head (IsNewSlot bytes) (shown x) (map shown xs) all).size (slot_sizes xs (All-tail (IsNewSlot bytes) (shown x) (map shown xs) all))
+  -- the slots that came are those of a supply
+  pub new_are_slots : (xs : List S) → All (IsNewSlot bytes) (map shown xs) → All (λ s. IsSlot bytes (shown s)) xs
+  new_are_slots [] all = λ k d h. absurd (omega arith)
+  new_are_slots (x ∷ xs) all =
+      let first = All-head (IsNewSlot bytes) (shown x) (map shown xs) all in
+      All-cons (λ s. IsSlot bytes (shown s)) x xs (record { size = first.size; spent = omega (arith, first.no_read) }) (new_are_slots xs (All-tail (IsNewSlot bytes) (shown x) (map shown xs) all))
 
 module _ {T E : Type 0} {P : Type 0} where
   pub err_holds : (r : Result T E) (b : Bool) → b ≡ is_err r → b ≡ true → OnErr r P → P

@@ -14,7 +14,7 @@ use Rattle.ppq_extract.specs.ppq_array.Run.{Run, items_of, buffers_of}
 use Rattle.ppq_extract.specs.ppq_array.External.{External, size_of, records_in, IsPacked}
 use Rattle.ppq_extract.specs.ppq_array.Supply.{Stock}
 use Rattle.ppq_extract.specs.ppq_array.Kept.{Kept, SameSlots, SameSums, AreQuiet, all_writes, all_faults}
-use Rattle.ppq_extract.specs.ppq_array.Holdings.{internal_items, external_buffers, external_slots, RunHasBlock, ArrayHasSize, CanTakeBack}
+use Rattle.ppq_extract.specs.ppq_array.Holdings.{internal_items, external_buffers, external_slots, RunHasBlock, HasSlots, CanTakeBack}
 use Rattle.ppq_extract.proofs.ppq_array.Noted.{all_right}
 use Rattle.ppq_extract.specs.ppq_fetch.Fetching.{IsFitting, fronts_in, one_if_some, count_in}
 use Rattle.ppq_spill.specs.Body.{held_by}
@@ -124,7 +124,7 @@ module _ {S R : Type 0} (shown : S → Shown) where
             let ext = put.external in
             let array = put.array in
             let one : List (External S R) = array ∷ [] in
-            let bytes = ArrayHasSize {R = R} shown (t.block * width) in
+            let bytes = HasSlots {R = R} shown (t.block * width) in
             let before : slots_of shown a s ++ t.drawn ≡ slots_of shown a s = no_row_more (slots_of shown a s) t.drawn no_row' in
             let after : slots_of shown b t ++ s.drawn ≡ slots_of shown b t = no_row_more (slots_of shown b t) s.drawn no_row in
             let blocks : bytes array = All-head bytes array [] (all_right bytes a.runs.external.items one (subst (All bytes) ext size.external)) in

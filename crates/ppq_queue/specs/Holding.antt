@@ -71,6 +71,10 @@ pub record IsNewSlot (bytes : ℕ) (slot : Shown) : Type 0 where
   pub no_write : slot.writes ≡ 0
   pub no_read : slot.reads ≡ 0
 
+-- a slot was read no more often than it was written
+abbrev pub IsSpent : Shown → Type 0
+IsSpent slot = slot.reads ≤ slot.writes
+
 -- as many slots as the device has blocks, each of the bytes of a block, and none called yet
 pub record AreNewSlots (sizes : Numbers) (width : ℕ) (slots : List Shown) : Type 0 where
   pub count : length slots ≡ sizes.blocks

@@ -11,7 +11,7 @@ use Rattle.ppq_extract.specs.ppq_array.External.{External, size_of, records_in, 
 use Rattle.ppq_extract.specs.ppq_array.Supply.{Stock}
 use Rattle.ppq_extract.specs.ppq_array.Owner.{HasBlock}
 use Rattle.ppq_extract.specs.ppq_array.Kept.{SameSlots, AreQuiet, all_writes}
-use Rattle.ppq_extract.specs.ppq_array.Holdings.{internal_items, internal_buffers, external_buffers, RunHasBlock, ArrayHasSize, CanTakeBack}
+use Rattle.ppq_extract.specs.ppq_array.Holdings.{internal_items, internal_buffers, external_buffers, RunHasBlock, HasSlots, CanTakeBack}
 use Rattle.ppq_extract.specs.ppq_fetch.Fetching.{IsFitting, fronts_in, count_in}
 use Rattle.ppq_extract.specs.ppq_fetch.Taking.{NoneAfter}
 use Rattle.ppq_spill.specs.Body.{body_slots, held_by}
@@ -62,7 +62,7 @@ module _ {S R : Type 0} where
       pub some : 0 < size_of a
       pub level : a.level ≤ 7
       pub lifted : a.lifted ≡ []
-      pub size : ArrayHasSize shown (block * width) a
+      pub size : HasSlots shown (block * width) a
       pub loaded : RunHasBlock block a.loaded
       pub fitting : All IsFitting (buffers_of a.loaded)
       pub spent : a.loaded.spent ≡ []

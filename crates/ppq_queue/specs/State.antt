@@ -7,7 +7,7 @@ use Rattle.ppq_extract.specs.ppq_budget.Sizes.{Numbers, AreInRange, fixed_of, he
 use Rattle.ppq_heap.specs.Heaps.{Shares, items_of}
 use Rattle.ppq_extract.specs.ppq_block.Block.{holding}
 use Rattle.ppq_extract.specs.ppq_array.Supply.{Stock}
-use Rattle.ppq_extract.specs.ppq_array.Kept.{HasFailed}
+use Rattle.ppq_extract.specs.ppq_array.Kept.{HasFailed, all_overreads}
 use Rattle.ppq_extract.specs.ppq_array.Owner.{new_owner}
 use Rattle.ppq_extract.specs.ppq_fetch.Taking.{NoneAfter}
 use Rattle.ppq_extract.specs.Extracted.{Held, held, ServesFor}
@@ -19,8 +19,8 @@ use Rattle.ppq_queue.specs.Resting.{slots_of, AtRest, runs_bag, count_of}
 use Rattle.ppq_queue.specs.declared.parts.Parts.{Parts}
 
 module _ {S R : Type 0} (shown : S → Shown) where
-  -- What holds always: the parts fit the sizes, all buffers that were made are there, and so are all slots; the peak is no less than the
-  -- size; and a call of the slot that is kept as failed did fail
+  -- What holds always: the parts fit the sizes, all buffers that were made are there, and so are all slots, none of which was read more often
+  -- than written; the peak is no less than the size; and a call of the slot that is kept as failed did fail
   pub record IsQueue (sizes : Numbers) (heaps : Shares R) (extract : Held R) (body : PassBody S R) (stock : Stock) (count peak : ℕ) (failed : Option ℕ) : Type 0 where
     pub range : AreInRange sizes
     pub budget : fixed_of sizes ≤ sizes.memory
@@ -32,6 +32,7 @@ module _ {S R : Type 0} (shown : S → Shown) where
     pub held : (held_by shown body).buffers ≡ lane_buffers sizes + stock.buffer_room
     pub pool : stock.sure_buffers + stock.buffer_room ≡ pool_of sizes
     pub slots : length (slots_of shown body stock) ≡ sizes.blocks
+    pub overreads : all_overreads (slots_of shown body stock) ≡ 0
     pub no_row : stock.drawn ≡ []
     pub counted : count ≤ peak
     pub most : peak ≤ sizes.memory + sizes.block * sizes.blocks + 1

@@ -2,6 +2,7 @@
 ghost use Rattle.std.specs.Prelude.{◌≡◌, ◌≤◌, ◌<◌, ◌+◌, ◌-◌, ◌*◌, ◌∷◌, ◌++◌, [], length, map, reverse, All, OnOk, OnErr, IfErr, vec_capacity};
 ghost use Rattle.ppq_extract.specs.ppq_array.Owner.{slots_shown};
 ghost use Rattle.ppq_extract.specs.ppq_array.Holdings.{external_slots};
+ghost use Rattle.ppq_extract.specs.ppq_array.Supply.{IsSlot};
 ghost use Rattle.ppq_extract.specs.ppq_lane.declared.job.Job.{Job};
 ghost use Rattle.ppq_spill.specs.Body.{job_slots, body_slots};
 ghost use Rattle.ppq_queue.specs.Slots.{SameSums, with_slots};
@@ -40,7 +41,7 @@ pub fn berth_slots<S: Slot, R: Record>(
     supply: &mut OwnerLists<S, R>,
 ) -> Result<(), Memory>
     requires none { supply.old.kept ≡ [] }
-    requires sizes { All (λ s. (S.shown s).size ≡ supply.old.block * R.WIDTH) slots.old.items }
+    requires slots { All (λ s. IsSlot (supply.old.block * R.WIDTH) (S.shown s)) slots.old.items }
     requires room { length slots.old.items ≤ supply.old.slot_room }
     ensures stock { OnOk result (supply.new ≡ with_slots supply.old (map S.shown slots.old.items) (supply.old.slot_room - length slots.old.items)) }
     ensures emptied { OnOk result (slots.new.items ≡ []) }
@@ -63,7 +64,7 @@ fn berth_last<S: Slot, R: Record>(
     supply: &mut OwnerLists<S, R>,
 ) -> Result<(), S>
     requires none { supply.old.kept ≡ [] }
-    requires sizes { All (λ s. (S.shown s).size ≡ supply.old.block * R.WIDTH) slots.old.items }
+    requires slots { All (λ s. IsSlot (supply.old.block * R.WIDTH) (S.shown s)) slots.old.items }
     requires room { length slots.old.items ≤ supply.old.slot_room }
     ensures all { OnOk result (supply.new ≡ with_slots supply.old (map S.shown (reverse slots.old.items)) (supply.old.slot_room - length slots.old.items)) }
     ensures emptied { OnOk result (slots.new.items ≡ []) }

@@ -1,15 +1,15 @@
 //! The queue.
-ghost use Rattle.std.specs.Prelude.{◌≡◌, ◌≤◌, ◌<◌, ◌+◌, ◌-◌, ◌*◌, ◌^◌, ◌↔◌, ◌⊎◌, ◌∷◌, [], ℕ, length, map, Some, None, IsNone, IsOk, Err, IsErrOf, IfOk, IfErr, OnOk, max, min, true, false};
+ghost use Rattle.std.specs.Prelude.{◌≡◌, ◌≤◌, ◌<◌, ◌+◌, ◌-◌, ◌*◌, ◌^◌, ◌↔◌, ◌⊎◌, ◌∷◌, [], ℕ, All, length, map, Some, None, IsNone, IsOk, Err, IsErrOf, IfOk, IfErr, OnOk, max, min, true, false};
 ghost use Rattle.ppq_heap.specs.ppq_record.Bag.{IsSameBag, least};
 ghost use Rattle.ppq_extract.specs.ppq_budget.Sizes.{AreInRange, fixed_of, heap_of, heaps_of, batch_of, pool_of};
 ghost use Rattle.ppq_extract.specs.ppq_outside.Shown.{AllTell};
-ghost use Rattle.ppq_extract.specs.ppq_array.Kept.{SameSums, HasFailed, all_writes, all_reads};
+ghost use Rattle.ppq_extract.specs.ppq_array.Kept.{SameSums, HasFailed, all_writes};
 ghost use Rattle.ppq_extract.specs.ppq_array.declared.store_fault.StoreFault.TheVariants.{NoFreeBlock, Device};
 ghost use Rattle.ppq_spill.specs.ppq_counts.Account.{too_heavy};
 ghost use Rattle.ppq_spill.specs.ppq_counts.Tally.{no_tally, accepting, beginning, IsCounting, runs_of, bound_of};
 ghost use Rattle.ppq_queue.specs.Bulk.{IsEnd, EndsBy, BulkLeaves};
 ghost use Rattle.ppq_queue.specs.Handed.{holding_of, IsWhole};
-ghost use Rattle.ppq_queue.specs.Holding.{resident_of, with_one, IsAbove, NamesNeed, AreNewSlots, IsReady, IsRefusal, IsLeast, TookLeast, Keeps, Stays, SameRecords, QueueLeaves, HasAdded, HasTaken, MayPut, CountsAs, CountsPush, CountsRoom, CountsStore, UsesBlocks, session_begun, limit_begun};
+ghost use Rattle.ppq_queue.specs.Holding.{resident_of, with_one, IsAbove, NamesNeed, AreNewSlots, IsSpent, IsReady, IsRefusal, IsLeast, TookLeast, Keeps, Stays, SameRecords, QueueLeaves, HasAdded, HasTaken, MayPut, CountsAs, CountsPush, CountsRoom, CountsStore, UsesBlocks, session_begun, limit_begun};
 
 use crate::berths::{berth_slots, give_back};
 use crate::bulk::{empty_on_error, keep_below};
@@ -596,10 +596,10 @@ impl<S: Slot + Send + Sync, R: Record + Send + Sync> Queue<S, R> {
         // Records beyond the budget are in blocks, each of which was written.
         ensures written { self.now.failed ≡ None → self.now.size ≤ self.now.sizes.memory + self.now.sizes.block * all_writes self.now.slots }
 
-        // Its numbers bound what was written, while none of them stands still and they allow few enough runs. No more
-        // blocks were read than written, while these counts are exact.
+        // Its numbers bound what was written, while none of them stands still and they allow few enough runs. No block
+        // was read more often than it was written.
         ensures transfers { IsCounting self.now.counts → runs_of self.now.sizes.workers self.now.counts < too_heavy → self.now.sizes.block * all_writes self.now.slots ≤ bound_of self.now.sizes.workers self.now.sizes.block self.now.counts }
-        ensures read { all_writes self.now.slots < 2 ^ 63 → all_reads self.now.slots ≤ all_writes self.now.slots }
+        ensures read { All IsSpent self.now.slots }
 
         // Each block is free or in use. Unless one failed, a block in use is full of records of a run, but for one of
         // each run and but for 65 in all. So few are free only if many records are there (`blocks_are_used`).

@@ -29,24 +29,24 @@ fn sizes_of(shape: &Shape) -> Option<Sizes> {
     Sizes::new(shape.workers, shape.block, 1, shape.memory, 200)
 }
 
-// The writes and the reads of all these blocks.
-fn transfers_of(blocks: &[MemSlot]) -> (u64, u64) {
-    let (mut writes, mut reads) = (0u64, 0u64);
+// The writes of all these blocks, and whether none of them was read more often than written.
+fn transfers_of(blocks: &[MemSlot]) -> (u64, bool) {
+    let (mut writes, mut are_spent) = (0u64, true);
     for slot in blocks {
         writes = writes.saturating_add(slot.writes());
-        reads = reads.saturating_add(slot.reads());
+        are_spent &= slot.reads() <= slot.writes();
     }
-    (writes, reads)
+    (writes, are_spent)
 }
 
 // Closes a queue, and says whether its transfers are within the bound.
 fn closes_within(queue: Queue<MemSlot, Pair>, shape: &Shape, calls: &Calls) -> bool {
     writes_are_few();
     let blocks = queue.close();
-    let (writes, reads) = transfers_of(&blocks);
+    let (writes, are_spent) = transfers_of(&blocks);
     let written = u64::from(shape.block).saturating_mul(writes);
     let most = most_written(shape.workers, shape.block, 1, calls.pushed, calls.begun);
-    (written <= most) & (reads <= writes)
+    (written <= most) & are_spent
 }
 
 // Makes a generated call.

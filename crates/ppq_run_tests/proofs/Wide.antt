@@ -9,7 +9,7 @@ use Rattle.ppq_outside.specs.Shown.{Shown}
 use Rattle.ppq_array.specs.Run.{Run, items_of}
 use Rattle.ppq_array.specs.Supply.{Stock}
 use Rattle.ppq_array.specs.Owner.{HasBlock}
-use Rattle.ppq_array.specs.Holdings.{internal_items, internal_buffers, external_slots, RunHasBlock, ArrayHasSize}
+use Rattle.ppq_array.specs.Holdings.{internal_items, internal_buffers, external_slots, RunHasBlock, HasSlots}
 use Rattle.ppq_spill.specs.declared.body.PassBody.{PassBody}
 use Rattle.ppq_spill.specs.Storing.{MayStore, RunsAscend}
 use Rattle.ppq_run_tests.specs.Wide.{IsWideBody}
@@ -29,7 +29,7 @@ module _ {S R : Type 0} (shown : S → Shown) (width : ℕ) where
           small = subst (λ b. b ≤ 65536) (sym same) (omega arith);
           idle = subst (λ b. All (HasBlock b) body.lanes.idle) (sym same) is.blocks;
           internal = subst (All (RunHasBlock stock.block)) (sym none) (λ k d h. absurd (omega arith));
-          external = subst (All (ArrayHasSize shown (stock.block * width))) (sym is.no_external) (λ k d h. absurd (omega arith));
+          external = subst (All (HasSlots shown (stock.block * width))) (sym is.no_external) (λ k d h. absurd (omega arith));
         };
         buffer = is.some_idle;
         few_idle = is.few_idle;

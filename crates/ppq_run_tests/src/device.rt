@@ -1,18 +1,22 @@
 //! Worked examples of slots in boxes, of supplies, and of runs in blocks. A number stands for the pair with
 //! that key and value 0.
-ghost use Rattle.std.specs.Prelude.{◌≡◌, [], length};
+ghost use Rattle.std.specs.Prelude.{◌≡◌, ◌≤◌, [], length};
+ghost use Rattle.ppq_outside.specs.Told.{next_count};
 
+use crate::quiet_slot::{QuietSlot, quiet_berth, written_berth};
 use ppq_array::{Berth, ExternalArray, OwnerLists, Runs, Supply, free_slot, give_buffer};
 use ppq_block::BlockBuf;
-use ppq_outside::Slot;
+use ppq_outside::{Host, Slot};
 use ppq_record::Pair;
-use ppq_testkit::{QuietSlot, pair, quiet_berth};
+use ppq_testkit::pair;
 use std::alloc::Global;
 use std::process::Abort;
 
-// The slot with this number in a box, each call of which fails; runs and supplies make none.
-fn berth(rt: &impl Abort, alloc: Global, number: u32) -> Berth<QuietSlot, Pair> {
-    quiet_berth(alloc, number, true).expect(rt, "memory")
+// The slot with this number in a box, which was written once; from then on each call of it fails, and runs make none.
+fn stored<H: Host + Abort>(rt: &H, alloc: Global, number: u32) -> Berth<QuietSlot, Pair>
+    ensures unread { next_count (⟦<QuietSlot as Slot>⟧.shown result.slot).reads ≤ (⟦<QuietSlot as Slot>⟧.shown result.slot).writes }
+{
+    written_berth(rt, alloc, number, &[0; 32], true)
 }
 
 // A buffer for two pairs with these two.
@@ -27,14 +31,14 @@ fn buffer_of(rt: &impl Abort, alloc: Global, one: u64, other: u64) -> BlockBuf<P
 }
 
 // A run of three blocks: two pairs from 10 on in block 4, two from 20 on in 5, and 30 in 6.
-fn three_blocks(rt: &impl Abort, alloc: Global) -> ExternalArray<QuietSlot, Pair>
+fn three_blocks<H: Host + Abort>(rt: &H, alloc: Global) -> ExternalArray<QuietSlot, Pair>
     ensures { result.lifted ≡ [] }
 {
     let mut run = ExternalArray::empty(1);
-    run.append(berth(rt, alloc, 4), pair(10), 2);
-    run.append(berth(rt, alloc, 5), pair(20), 2);
+    run.append(stored(rt, alloc, 4), pair(10), 2);
+    run.append(stored(rt, alloc, 5), pair(20), 2);
     assert!(rt; run.blocks() == 2 && run.len() == 4);
-    run.append(berth(rt, alloc, 6), pair(30), 1);
+    run.append(stored(rt, alloc, 6), pair(30), 1);
     run
 }
 
@@ -134,8 +138,8 @@ fn lacked(owner: &Owner, slots: u64, buffers: u64) -> bool {
 #[test]
 fn an_owner_gives_slots_in_order_and_takes_them_back_at_the_end(rt: HostRuntime) {
     let mut owner = Owner::new(2, 2, 1);
-    free_slot(&mut owner, berth(&rt, rt.alloc(), 0));
-    free_slot(&mut owner, berth(&rt, rt.alloc(), 1));
+    free_slot(&mut owner, quiet_berth(&rt, rt.alloc(), 0, true));
+    free_slot(&mut owner, quiet_berth(&rt, rt.alloc(), 1, true));
     assert!(rt; (owner.free_slots() == 2) & lends_first(&mut owner));
     assert!(rt; (drawn(&mut owner) == Some(1)) & (drawn(&mut owner) == Some(0)));
     assert!(rt; (owner.dry() == 0) & drawn(&mut owner).is_none() & lacked(&owner, 1, 0));

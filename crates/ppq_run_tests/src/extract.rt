@@ -3,14 +3,16 @@ ghost use Rattle.std.specs.Prelude.{◌+◌, length, OnOk};
 ghost use Rattle.ppq_extract.specs.ppq_fetch.Fetching.{MayFetch};
 ghost use Rattle.ppq_extract.specs.Extracted.{sources_of, ServesFor};
 ghost use Rattle.ppq_extract.specs.Examples.{IsRunOfTwo, IsRunOfBlock};
+ghost use Rattle.ppq_array.specs.Holdings.{HasSlots};
 
+use crate::quiet_slot::{QuietSlot, written_berth};
 use ppq_array::{Berth, ExternalArray, InternalArray, OwnerLists, Runs, StoreFault};
 use ppq_block::BlockBuf;
 use ppq_extract::{Bench, Extract, Sizes, Sources};
 use ppq_lane::Lanes;
 use ppq_outside::{Host, OpenGate, Slot};
 use ppq_record::Pair;
-use ppq_testkit::{QuietSlot, pair, quiet_berth};
+use ppq_testkit::pair;
 use std::alloc::Global;
 use std::process::Abort;
 
@@ -44,17 +46,13 @@ fn run_of_block<H: Host + Abort>(
     other: u8,
     broken: bool,
 ) -> ExternalArray<QuietSlot, Pair>
-    ensures { IsRunOfBlock ⟦<QuietSlot as Slot>⟧.shown result }
+    ensures block { IsRunOfBlock ⟦<QuietSlot as Slot>⟧.shown result }
+    ensures slots { HasSlots ⟦<QuietSlot as Slot>⟧.shown 32 result }
 {
     let mut bytes = [0; 32];
     bytes[7] = one;
     bytes[23] = other;
-    let mut slot = QuietSlot::new(4, broken);
-    assert!(rt; slot.write(rt, &bytes).is_ok() != broken);
-    let berth = match Berth::new(alloc, slot) {
-        Ok(berth) => berth,
-        Err(_) => panic!(rt; "memory"),
-    };
+    let berth = written_berth(rt, alloc, 4, &bytes, broken);
     let mut run = ExternalArray::empty(0);
     run.append(berth, pair(u64::from(one)), 2);
     run

@@ -16,4 +16,6 @@ mod lane;
 #[cfg(test)]
 mod merge;
 #[cfg(test)]
+mod quiet_slot;
+#[cfg(test)]
 mod spill;

@@ -5,6 +5,7 @@ ghost use Rattle.ppq_record.specs.Order.{Ascends};
 ghost use Rattle.ppq_record.specs.Pair.{pair_cmp};
 ghost use Rattle.ppq_run_tests.specs.Wide.{IsWideBody};
 
+use crate::quiet_slot::{QuietSlot, quiet_berth};
 use ppq_array::{
     Berth, ExternalArray, OwnerLists, Runs, StoreFault, Supply, free_slot, give_buffer,
 };
@@ -14,14 +15,9 @@ use ppq_merge::MinTree;
 use ppq_outside::{Host, Slot};
 use ppq_record::{Pair, is_least, record_laws};
 use ppq_spill::{PassBody, store_sorted};
-use ppq_testkit::{QuietSlot, pair, quiet_berth};
+use ppq_testkit::pair;
 use std::alloc::Global;
 use std::process::Abort;
-
-// The slot with this number, in a box.
-fn berth(rt: &impl Abort, alloc: Global, number: u32, broken: bool) -> Berth<QuietSlot, Pair> {
-    quiet_berth(alloc, number, broken).expect(rt, "memory")
-}
 
 // What runs of two records are stored by.
 type Body = PassBody<QuietSlot, Pair>;
@@ -64,7 +60,7 @@ fn one_of_each(rt: &impl Abort, alloc: Global) -> Owner
     ensures { result.block ≡ 2 }
 {
     let mut owner = OwnerLists::new(2, 1, 1);
-    free_slot(&mut owner, berth(rt, alloc, 0, false));
+    free_slot(&mut owner, quiet_berth(rt, alloc, 0, false));
     give_buffer(&mut owner, BlockBuf::new(alloc, 2).expect(rt, "memory"));
     owner
 }
@@ -100,8 +96,8 @@ fn two_slots(rt: &impl Abort, alloc: Global) -> Owner
     ensures { result.block ≡ 2 }
 {
     let mut owner = OwnerLists::new(2, 2, 0);
-    free_slot(&mut owner, berth(rt, alloc, 7, false));
-    free_slot(&mut owner, berth(rt, alloc, 8, false));
+    free_slot(&mut owner, quiet_berth(rt, alloc, 7, false));
+    free_slot(&mut owner, quiet_berth(rt, alloc, 8, false));
     owner
 }
 
@@ -176,7 +172,7 @@ fn broken_slot(rt: &impl Abort, alloc: Global) -> Owner
     ensures { result.block ≡ 2 }
 {
     let mut owner = OwnerLists::new(2, 1, 0);
-    free_slot(&mut owner, berth(rt, alloc, 3, true));
+    free_slot(&mut owner, quiet_berth(rt, alloc, 3, true));
     owner
 }
 
@@ -224,7 +220,7 @@ fn twenty_slots(rt: &impl Abort, alloc: Global, first: u32, second: u32) -> Owne
     let mut owner = OwnerLists::new(2, 20, 0);
     for number in 0..20 {
         let broken = (number == first) | (number == second);
-        free_slot(&mut owner, berth(rt, alloc, number, broken));
+        free_slot(&mut owner, quiet_berth(rt, alloc, number, broken));
     }
     owner
 }

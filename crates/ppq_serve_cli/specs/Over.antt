@@ -1,5 +1,5 @@
 -- Requests over a device: by the arguments and the type of the records.
-use Rattle.std.specs.Prelude.{◌≡◌, ◌⊎◌, ◌<◌, ◌≤◌, ℕ, List, [], ◌++◌, map, Option}
+use Rattle.std.specs.Prelude.{◌≡◌, ◌⊎◌, ◌<◌, ◌≤◌, ◌*◌, ℕ, List, [], ◌++◌, map, Option, All}
 use Rattle.std.specs.List.{range_with_len}
 use Rattle.ppq_answer.specs.ppq_frames.ppq_outside.Made.{HasMade}
 use Rattle.ppq_answer.specs.ppq_frames.ppq_outside.Shown.{Shown, AllTell}
@@ -15,6 +15,7 @@ use Rattle.ppq_requests.specs.ppq_script.declared.kind.Kind.TheVariants.{Pair, T
 use Rattle.ppq_requests.specs.ppq_script.declared.order.Order.{Order}
 use Rattle.ppq_requests.specs.ppq_script.declared.order.Order.TheVariants.{Up, Down}
 use Rattle.ppq_answer.specs.ppq_engine.ppq_load.ppq_budget.Sizes.{fixed_of}
+use Rattle.ppq_answer.specs.ppq_engine.ppq_array.Supply.{IsSlot}
 use Rattle.ppq_answer.specs.ppq_engine.ppq_queue.Holding.{AreNewSlots}
 use Rattle.ppq_words.specs.Reading.{in_unit, sizes_for}
 use Rattle.ppq_words.specs.ServeReading.{ServeReading}
@@ -52,7 +53,7 @@ module _ {R : Type 0} (w : Words R) {I K O S : Type 0} (source : SourceShows I) 
     pub says : UnmadeSays answered.outcome
 
   -- The device that the arguments name was made, of all its blocks, which are new, numbered from 0 and tell where the rack does; and requests were answered
-  -- over it
+  -- over it. Each block that comes back has the bytes of a block of the records, and was read no more often than it was written
   pub record HasDevice : Type 0 where
     pub first : List Shown
     pub enough : fixed_of (sizes_for w.WIDTH r.given) ≤ (sizes_for w.WIDTH r.given).memory
@@ -63,6 +64,7 @@ module _ {R : Type 0} (w : Words R) {I K O S : Type 0} (source : SourceShows I) 
     pub same : rack.faults new_rack ≡ rack.faults old_rack
     pub talk : ServesTalk w source (sizes_for w.WIDTH r.given) first (map shown answered.blocks.items) old_source new_source was_waiting waiting (sink.told old_out) (sink.told new_out) (sink.faults old_out) (sink.faults new_out) answered.outcome
     pub asked : talk.requests ≡ requests
+    pub back : All (IsSlot ((sizes_for w.WIDTH r.given).block * w.WIDTH)) (map shown answered.blocks.items)
 
   abbrev pub ServesOver : Type 0
   ServesOver = LacksDevice ⊎ HasDevice

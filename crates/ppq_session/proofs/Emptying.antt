@@ -12,7 +12,7 @@ use Rattle.ppq_pass.specs.ppq_array.Supply.{Stock}
 use Rattle.ppq_pass.specs.ppq_array.Owner.{slots_shown}
 use Rattle.ppq_pass.specs.ppq_array.declared.berth.DeviceBlock.{DeviceBlock}
 use Rattle.ppq_queue.specs.Slots.{with_slots}
-use Rattle.ppq_pass.specs.ppq_array.Kept.{SameSlots, weight_at}
+use Rattle.ppq_pass.specs.ppq_array.Kept.{SameSlots, weight_at, overread}
 
 module _ {R : Type 0} where
   -- none is left where as many were dropped as there were
@@ -65,4 +65,6 @@ SameSlots-append a b c d h k =
       faults = λ n. omega (arith, h.faults n, k.faults n, sum_by-append (weight_at (λ s. s.faults) n) a c, sum_by-append (weight_at (λ s. s.faults) n) b d);
       writes = λ n. omega (arith, h.writes n, k.writes n, sum_by-append (weight_at (λ s. s.writes) n) a c, sum_by-append (weight_at (λ s. s.writes) n) b d);
       reads = λ n. omega (arith, h.reads n, k.reads n, sum_by-append (weight_at (λ s. s.reads) n) a c, sum_by-append (weight_at (λ s. s.reads) n) b d);
+      sizes = λ n. omega (arith, h.sizes n, k.sizes n, sum_by-append (weight_at (λ s. s.size) n) a c, sum_by-append (weight_at (λ s. s.size) n) b d);
+      overreads = omega (arith, h.overreads, k.overreads, sum_by-append overread a c, sum_by-append overread b d);
     }

@@ -14,7 +14,7 @@ use Rattle.ppq_pass.specs.ppq_block.Block.{Block}
 use Rattle.ppq_pass.specs.ppq_heap.Heap.{Contents}
 use Rattle.ppq_pass.specs.ppq_heap.Heaps.{items_in, empty_heap}
 use Rattle.ppq_pass.specs.ppq_array.declared.berth.DeviceBlock.{DeviceBlock}
-use Rattle.ppq_pass.specs.ppq_array.Owner.{HasSize}
+use Rattle.ppq_pass.specs.ppq_array.Owner.{HasSlot}
 use Rattle.ppq_pass.specs.ppq_row.declared.hand.Hand.{Hand as RowHand}
 use Rattle.ppq_pass.specs.ppq_pool.declared.hand.Hand.{Hand as PoolHand}
 use Rattle.ppq_pass.specs.ppq_pool.Seats.{count_of}
@@ -97,7 +97,7 @@ module _ {S R : Type 0} where
             row_shares = omega (arith, m.row_shares, e.row_shares);
             undrawn = ap (λ (h : RowHand (DeviceBlock S R)). h.places) e.row_hand ∙ m.undrawn;
             few_slots = omega (arith, ap length (items_stay 1 e), m.few_slots);
-            bytes = subst (All (HasSize shown (sizes.block * width))) (sym (items_stay 1 e)) m.bytes;
+            bytes = subst (All (HasSlot shown (sizes.block * width))) (sym (items_stay 1 e)) m.bytes;
             pool = e.pool ∙ m.pool ∙ ap (λ h. h.pool) (sym e.shared);
             pool_shares = omega (arith, m.pool_shares, e.pool_shares);
             untaken = ap (λ (h : PoolHand (PoolBuf R)). h.numbers) e.pool_hand ∙ m.untaken;

@@ -336,6 +336,7 @@ module _ {S R : Type 0} (shown : S → Shown) (cmp : R → R → Ordering) (reco
         no_job = is.out.no_job;
         holds = omega (arith, is.out.held, buffers_are rest br.each, rest_count, all_pool, room_is, is.fits);
         all_slots = same_now.length ∙ is.out.slots;
+        overreads = omega (arith, same_now.overreads, is.out.overreads);
         sums = λ f. refl;
         told = items_told;
         fault = λ number e. omega (arith, is.fault number e, same_now.faults number);

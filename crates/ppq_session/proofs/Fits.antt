@@ -3,9 +3,9 @@ use Rattle.std.proofs.Common.{◌≡◌, ℕ, ◌+◌, ◌-◌, ◌*◌, ◌^◌
 use Rattle.std.specs.declared.cmp.Ordering.{Ordering}
 use Rattle.std.proofs.lemmas.List.Sums.{sum_by-append, sum_by-cons}
 use Rattle.ppq_pass.specs.ppq_outside.Shown.{Shown}
-use Rattle.ppq_pass.specs.ppq_array.Owner.{HasSize, slots_shown}
+use Rattle.ppq_pass.specs.ppq_array.Owner.{HasSlot, slots_shown}
 use Rattle.ppq_pass.specs.ppq_array.Supply.{Stock}
-use Rattle.ppq_pass.specs.ppq_array.Holdings.{ArrayHasSize, external_slots, internal_buffers, external_buffers}
+use Rattle.ppq_pass.specs.ppq_array.Holdings.{HasSlots, external_slots, internal_buffers, external_buffers}
 use Rattle.ppq_pass.proofs.ppq_spill.Keeping.{slots_long}
 use Rattle.ppq_queue.specs.Slots.{SameSums, with_slots}
 use Rattle.ppq_session.specs.Passes.{IsBrought}
@@ -71,11 +71,11 @@ module _ {S R : Type 0} (shown : S → Shown) (cmp : R → R → Ordering) (reco
   pub slots-fit : length (external_slots shown one.body.runs.external.items) + length one.stash ≤ c.supply.slot_room
   slots-fit = omega (arith, parts-slots, a.slot_room, ap length brought.stash)
 
-  pub stash-sizes : All (HasSize shown (c.supply.block * width)) one.stash
-  stash-sizes = subst (λ l. All (HasSize shown (c.supply.block * width)) l) (sym brought.stash) (subst (λ b. All (HasSize shown (b * width)) one.kept.value.stash) block brought.always.supply.stash_sizes)
+  pub stash-sizes : All (HasSlot shown (c.supply.block * width)) one.stash
+  stash-sizes = subst (λ l. All (HasSlot shown (c.supply.block * width)) l) (sym brought.stash) (subst (λ b. All (HasSlot shown (b * width)) one.kept.value.stash) block brought.always.supply.stash_sizes)
 
-  pub runs-sizes : All (ArrayHasSize shown (c.supply.block * width)) one.body.runs.external.items
-  runs-sizes = subst (λ b. All (ArrayHasSize shown (b * width)) one.body.runs.external.items) block brought.always.size.external
+  pub runs-sizes : All (HasSlots shown (c.supply.block * width)) one.body.runs.external.items
+  runs-sizes = subst (λ b. All (HasSlots shown (b * width)) one.body.runs.external.items) block brought.always.size.external
 
   -- all buffers are few
   pub buffers-fit : length c.body.lanes.idle + internal_buffers one.body.runs.internal.items + external_buffers one.body.runs.external.items + length one.body.lanes.idle < 4294967295

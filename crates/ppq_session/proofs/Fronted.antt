@@ -128,6 +128,7 @@ module _ {S R : Type 0} (shown : S → Shown) (width : ℕ) (q : BulkParts S R) 
           held = omega (arith, is.held, more);
           pool = omega (arith, is.pool);
           slots = is.slots;
+          overreads = is.overreads;
           slot_room = is.slot_room;
           block = is.block;
           no_row = is.no_row;

@@ -145,6 +145,7 @@ module _ {S R : Type 0} (shown : S → Shown) (width : ℕ) (slots items : List 
         no_job = no_job;
         holds = omega (arith, held, a.holds, buffers-push, ap (λ s. s.buffer_room) stock);
         all_slots = a.all_slots;
+        overreads = a.overreads;
         sums = λ f. sym (all f) ∙ a.sums f;
         told = a.told;
         fault = λ number e. by_fault number (failed number e);

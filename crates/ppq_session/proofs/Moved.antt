@@ -12,7 +12,7 @@ use Rattle.ppq_pass.specs.ppq_budget.Sizes.{Numbers}
 use Rattle.ppq_pass.specs.ppq_block.Block.{Block, holding}
 use Rattle.ppq_pass.specs.ppq_array.Supply.{Stock}
 use Rattle.ppq_pass.specs.ppq_array.Owner.{slots_shown, HasBlock}
-use Rattle.ppq_pass.specs.ppq_array.Kept.{SameSlots, HasFailed, all_writes, weight_at}
+use Rattle.ppq_pass.specs.ppq_array.Kept.{SameSlots, HasFailed, all_writes, weight_at, overread}
 use Rattle.ppq_pass.specs.ppq_array.declared.berth.DeviceBlock.{DeviceBlock}
 use Rattle.ppq_pass.proofs.ppq_array.Noted.{all_left, all_right}
 use Rattle.ppq_pass.proofs.ppq_spill.SameSlots.{SameSlots-refl}
@@ -91,6 +91,7 @@ module _ {S R : Type 0} (shown : S → Shown) where
           held = omega (arith, is.held, kept.held);
           pool = kept.all_buffers ∙ is.pool;
           slots = omega (arith, is.slots, kept.slots.length, length-append (slots_of shown q.body q.supply) own, length-append (slots_of shown b t) own);
+          overreads = omega (arith, is.overreads, kept.slots.overreads, sum_by-append overread (slots_of shown q.body q.supply) own, sum_by-append overread (slots_of shown b t) own);
           slot_room = kept.all_slots ∙ is.slot_room;
           block = kept.block ∙ is.block;
           no_row = no_row;
@@ -214,6 +215,7 @@ module _ {S R : Type 0} (shown : S → Shown) (width : ℕ) (q : BulkParts S R) 
           held = is.held;
           pool = is.pool;
           slots = is.slots;
+          overreads = is.overreads;
           slot_room = is.slot_room;
           block = is.block;
           no_row = is.no_row;

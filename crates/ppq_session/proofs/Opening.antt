@@ -15,7 +15,7 @@ use Rattle.ppq_pass.specs.ppq_tree.Tree.{Leaves}
 use Rattle.ppq_pass.specs.ppq_heap.Heap.{Contents}
 use Rattle.ppq_pass.specs.ppq_heap.Heaps.{items_of}
 use Rattle.ppq_pass.specs.ppq_array.declared.berth.DeviceBlock.{DeviceBlock}
-use Rattle.ppq_pass.specs.ppq_array.Owner.{slots_shown, HasSize, HasBlock}
+use Rattle.ppq_pass.specs.ppq_array.Owner.{slots_shown, HasSlot, HasBlock}
 use Rattle.ppq_pass.specs.ppq_array.Holdings.{internal_buffers, external_slots, external_buffers}
 use Rattle.ppq_pass.specs.ppq_fetch.Fetching.{blocks_in}
 use Rattle.ppq_pass.specs.ppq_fetch.Taking.{NoneAfter}
@@ -49,6 +49,7 @@ use Rattle.ppq_session.proofs.Mapped.{sum-mapped}
 use Rattle.ppq_session.proofs.Equipping.{bag_same, begun_same, first_same}
 use Rattle.ppq_pass.specs.ppq_record.Bag.{IsSameBag}
 use Rattle.ppq_pass.specs.ppq_array.Supply.{Stock}
+use Rattle.ppq_pass.specs.ppq_array.Kept.{all_overreads}
 use Rattle.ppq_queue.specs.Holding.{Holding}
 use Rattle.ppq_queue.specs.Handed.{IsWhole, holding_of}
 use Rattle.ppq_session.specs.Shares.{bare, IsFirst}
@@ -139,7 +140,7 @@ module _ {S R : Type 0} (shown : S → Shown) (cmp : R → R → Ordering) (reco
         row_shares = omega (arith, range.workers, o.first.row.shares);
         undrawn = o.first.row.undrawn;
         few_slots = omega (arith, r.slots, ap length o.first.row.items, length-map s.row_seat.hand.items (λ (b : DeviceBlock S R). shown b.slot));
-        bytes = subst (λ b. All (HasSize shown (b * width)) s.row_seat.hand.items) r.block o.first.row.bytes;
+        bytes = subst (λ b. All (HasSlot shown (b * width)) s.row_seat.hand.items) r.block o.first.row.bytes;
         pool = o.first.pool.pool_is;
         pool_shares = omega (arith, range.workers, o.first.pool.shares);
         untaken = o.first.pool.untaken;
@@ -218,7 +219,7 @@ module _ {S R : Type 0} (shown : S → Shown) (cmp : R → R → Ordering) (reco
                 heaps_leaves = leaves;
                 row_shares = e.row_shares ∙ o.first.row.shares;
                 undrawn = ap (λ (h : RowHand (DeviceBlock S R)). h.places) e.row_hand ∙ o.first.row.undrawn;
-                bytes = subst (λ b. All (HasSize shown (b * width)) s'.row_seat.hand.items) rest.block (subst (All (HasSize shown (o.before.block * width))) (sym items_same) o.first.row.bytes);
+                bytes = subst (λ b. All (HasSlot shown (b * width)) s'.row_seat.hand.items) rest.block (subst (All (HasSlot shown (o.before.block * width))) (sym items_same) o.first.row.bytes);
                 pool_shares = e.pool_shares ∙ o.first.pool.shares;
                 untaken = ap (λ (h : PoolHand (PoolBuf R)). h.numbers) e.pool_hand ∙ o.first.pool.untaken;
                 shape = λ some. ap (λ (h : PoolHand (PoolBuf R)). h.shape) e.pool_hand ∙ o.first.pool.shape (subst (λ t. 0 < pool_count t) pool_same some) ∙ rest.block;
@@ -235,6 +236,7 @@ module _ {S R : Type 0} (shown : S → Shown) (cmp : R → R → Ordering) (reco
               held = omega (arith, held_all, bare.buffer_room, ap length rest.no_job);
               pool = omega (arith, bare.sure, bare.buffer_room);
               slots = ap length same ∙ all_slots;
+              overreads = ap all_overreads (same ∙ slots_same) ∙ w.overreads;
               slot_room = omega (arith, ap length bare.kept, bare.slot_room);
               block = bare.block;
               no_row = bare.drawn;

@@ -22,7 +22,7 @@ use Rattle.ppq_queue.specs.Resting.{AtRest, IsRestingRun, IsRestingArray, count_
 use Rattle.ppq_queue.proofs.Bounds.{records_most}
 use Rattle.ppq_queue.proofs.Slots.{SameSums-length}
 use Rattle.ppq_queue.proofs.Shared.{all_within}
-use Rattle.ppq_pass.specs.ppq_array.Kept.{HasFailed, weight_at}
+use Rattle.ppq_pass.specs.ppq_array.Kept.{HasFailed, weight_at, overread}
 use Rattle.ppq_queue.specs.Holding.{IsAbove}
 use Rattle.ppq_session.specs.Gathering.{IsGathered, IsGathering, IsSoundSoFar, gathered_account}
 use Rattle.ppq_session.specs.declared.closed.Closed.{Closed}
@@ -106,6 +106,7 @@ module _ {S R : Type 0} (shown : S → Shown) (cmp : R → R → Ordering) (reco
           held = omega (arith, a.holds);
           pool = a.pool;
           slots = all_here;
+          overreads = omega (arith, a.sums overread, a.overreads, ap (sum_by overread) (append-nil (slots_of shown c.body c.supply)));
           no_row = a.no_row;
           counted = omega (arith, count_is, load_is);
           most = omega (arith, load_is, a.most_peak);

@@ -15,7 +15,7 @@ use Rattle.ppq_pass.proofs.ppq_record.Order.{count_by-append}
 use Rattle.ppq_pass.specs.ppq_outside.Shown.{Shown, AllTell}
 use Rattle.ppq_pass.specs.ppq_heap.Heaps.{items_in}
 use Rattle.ppq_pass.specs.ppq_array.declared.berth.DeviceBlock.{DeviceBlock}
-use Rattle.ppq_pass.specs.ppq_array.Owner.{slots_shown, HasSize}
+use Rattle.ppq_pass.specs.ppq_array.Owner.{slots_shown, HasSlot}
 use Rattle.ppq_pass.specs.ppq_array.Kept.{SameSlots, AreQuiet, HasFailed, weight_at, all_faults, all_writes}
 use Rattle.ppq_pass.proofs.ppq_spill.SameSlots.{SameSlots-trans}
 use Rattle.ppq_pass.specs.Passed.{PassKey, PassHolding, PassTells, slots_of as pass_slots}
@@ -77,10 +77,10 @@ module _ {S R : Type 0} (shown : S → Shown) (cmp : R → R → Ordering) (reco
         slots_long shown q.row_seat.hand.items,
       )
 
-  all_bytes : All (HasSize shown (q1.supply.block * width)) q1.row_seat.hand.items
+  all_bytes : All (HasSlot shown (q1.supply.block * width)) q1.row_seat.hand.items
   all_bytes =
-      subst (λ b. All (HasSize shown (b * width)) q1.row_seat.hand.items) (sym one_block)
-      (subst (All (HasSize shown (q.sizes.block * width))) (sym br.row_items) is.out.home.bytes)
+      subst (λ b. All (HasSlot shown (b * width)) q1.row_seat.hand.items) (sym one_block)
+      (subst (All (HasSlot shown (q.sizes.block * width))) (sym br.row_items) is.out.home.bytes)
 
   -- with the shares of all passes the seats have all
   pub may_close : (shared : Shared S R) → q.row_seat.row ≡ shared.row → q.pool_seat.pool ≡ shared.pool → length br.brought ≡ q.sizes.workers → MayClose shown width q1 shared

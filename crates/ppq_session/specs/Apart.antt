@@ -10,8 +10,8 @@ use Rattle.ppq_pass.specs.ppq_table.Sums.{all_shares}
 use Rattle.ppq_pass.specs.ppq_tree.Tree.{Leaves}
 use Rattle.ppq_pass.specs.ppq_heap.Heap.{Contents}
 use Rattle.ppq_pass.specs.ppq_array.declared.berth.DeviceBlock.{DeviceBlock}
-use Rattle.ppq_pass.specs.ppq_array.Owner.{slots_shown, HasSize, HasBlock}
-use Rattle.ppq_pass.specs.ppq_array.Kept.{HasFailed}
+use Rattle.ppq_pass.specs.ppq_array.Owner.{slots_shown, HasSlot, HasBlock}
+use Rattle.ppq_pass.specs.ppq_array.Kept.{HasFailed, all_overreads}
 use Rattle.ppq_pass.specs.ppq_array.Holdings.{external_buffers}
 use Rattle.ppq_pass.specs.ppq_fetch.Fetching.{fronts_in}
 use Rattle.ppq_pass.specs.ppq_fetch.Taking.{NoneAfter}
@@ -74,7 +74,7 @@ module _ {S R : Type 0} where
       pub heaps_leaves : length tree.items ≡ n.workers
       pub row_shares : row_seat.hand.shares + n.workers ≡ all_shares
       pub undrawn : row_seat.hand.places ≡ []
-      pub bytes : All (HasSize shown (n.block * width)) row_seat.hand.items
+      pub bytes : All (HasSlot shown (n.block * width)) row_seat.hand.items
       pub pool_shares : pool_seat.hand.shares + n.workers ≡ all_shares
       pub untaken : pool_seat.hand.numbers ≡ []
       pub shape : 0 < pool_count pool_seat.pool → pool_seat.hand.shape ≡ n.block
@@ -85,7 +85,7 @@ module _ {S R : Type 0} where
       pub brought_room : n.workers ≤ vec_capacity brought
       pub most : peak ≤ n.memory + n.block * n.blocks + 1
 
-    -- What holds always: with what is out all slots and all buffers are there
+    -- What holds always: with what is out all slots and all buffers are there, and no slot was read more often than written
     pub record IsOut (width : ℕ) (q : BulkParts S R) : Type 0 where
       pub home : IsHome width q.sizes q.heaps q.tree q.row_seat q.pool_seat q.slots q.brought q.peak
       pub room : q.extract.room ≡ batch_of q.sizes
@@ -94,6 +94,7 @@ module _ {S R : Type 0} where
       pub held : (held_by shown q.body).buffers + 2 * q.sizes.workers + pool_count q.pool_seat.pool ≡ lane_buffers q.sizes + q.supply.buffer_room
       pub pool : q.supply.sure_buffers + q.supply.buffer_room ≡ pool_of q.sizes
       pub slots : length (apart_slots q) ≡ q.sizes.blocks
+      pub overreads : all_overreads (apart_slots q) ≡ 0
       pub slot_room : length q.supply.kept + q.supply.slot_room ≡ q.sizes.blocks
       pub block : q.supply.block ≡ q.sizes.block
       pub no_row : q.supply.drawn ≡ []

@@ -2,7 +2,7 @@
 use Rattle.std.specs.Prelude.{◌≡◌, ℕ, ◌+◌, ◌-◌, ◌*◌, ◌<◌, ◌≤◌, true, List, [], ◌++◌, length, drop, Option, All}
 use Rattle.ppq_pass.specs.ppq_outside.Shown.{Shown}
 use Rattle.ppq_pass.specs.ppq_table.Sums.{all_shares, times, once_below}
-use Rattle.ppq_pass.specs.ppq_array.Owner.{HasSize, slots_shown}
+use Rattle.ppq_pass.specs.ppq_array.Owner.{HasSlot, slots_shown}
 use Rattle.ppq_pass.specs.ppq_array.declared.berth.DeviceBlock.{DeviceBlock}
 use Rattle.ppq_pass.specs.ppq_pool.Seats.{count_of as pool_count}
 use Rattle.ppq_pass.specs.declared.shared.Shared.{Shared}
@@ -14,7 +14,7 @@ pub record MayClose {S R : Type 0} (shown : S → Shown) (width : ℕ) (p : Bulk
   pub row : p.row_seat.row ≡ shared.row
   pub row_shares : p.row_seat.hand.shares ≡ all_shares
   pub few_slots : length p.row_seat.hand.items ≤ p.supply.slot_room
-  pub bytes : All (HasSize shown (p.supply.block * width)) p.row_seat.hand.items
+  pub bytes : All (HasSlot shown (p.supply.block * width)) p.row_seat.hand.items
   pub pool : p.pool_seat.pool ≡ shared.pool
   pub pool_shares : p.pool_seat.hand.shares ≡ all_shares
   pub few_buffers : pool_count p.pool_seat.pool ≤ p.supply.buffer_room

@@ -5,7 +5,7 @@ use Rattle.ppq_pass.specs.ppq_budget.Sizes.{Numbers, heap_of, pool_of}
 use Rattle.ppq_pass.specs.ppq_outside.Shown.{Shown}
 use Rattle.ppq_pass.specs.ppq_block.Block.{Block}
 use Rattle.ppq_pass.specs.ppq_heap.Heap.{Contents}
-use Rattle.ppq_pass.specs.ppq_array.Owner.{HasBlock, HasSize}
+use Rattle.ppq_pass.specs.ppq_array.Owner.{HasBlock, HasSlot}
 use Rattle.ppq_pass.specs.ppq_pool.Seats.{count_of}
 use Rattle.ppq_pass.specs.Passed.{PassHolding, PassKey}
 use Rattle.ppq_session.specs.BulkSession.{IsFresh}
@@ -39,7 +39,7 @@ module _ {S R : Type 0} where
     pub row_shares : n < s.row_seat.hand.shares
     pub undrawn : s.row_seat.hand.places ≡ []
     pub few_slots : length s.row_seat.hand.items ≤ sizes.blocks
-    pub bytes : All (HasSize shown (sizes.block * width)) s.row_seat.hand.items
+    pub bytes : All (HasSlot shown (sizes.block * width)) s.row_seat.hand.items
     pub pool : s.pool_seat.pool ≡ s.shared.pool
     pub pool_shares : n < s.pool_seat.hand.shares
     pub untaken : s.pool_seat.hand.numbers ≡ []

@@ -7,7 +7,7 @@ use Rattle.ppq_pass.specs.ppq_budget.Sizes.{AreInRange, fixed_of, heap_of, batch
 use Rattle.ppq_pass.specs.ppq_heap.Heap.{Contents}
 use Rattle.ppq_pass.specs.ppq_heap.Heaps.{items_in}
 use Rattle.ppq_pass.specs.ppq_array.Owner.{HasBlock, slots_shown}
-use Rattle.ppq_pass.specs.ppq_array.Kept.{HasFailed}
+use Rattle.ppq_pass.specs.ppq_array.Kept.{HasFailed, all_overreads}
 use Rattle.ppq_pass.specs.ppq_array.Supply.{Stock}
 use Rattle.ppq_pass.specs.ppq_array.Holdings.{external_buffers}
 use Rattle.ppq_pass.specs.ppq_extract.Extracted.{ServesFor}
@@ -102,6 +102,7 @@ module _ {S R : Type 0} (shown : S → Shown) where
     pub no_job : c.body.lanes.jobs.items ≡ []
     pub holds : (held_by shown c.body).buffers + buffers_in rest ≡ lane_buffers c.sizes + c.supply.buffer_room
     pub all_slots : length slots ≡ c.sizes.blocks
+    pub overreads : all_overreads slots ≡ 0
     pub sums : SameSums (slots_of shown c.body c.supply ++ slots_in rest) slots
     pub told : AllTell slots → AllTell items
     pub fault : (number : ℕ) → c.failed ≡ Some number → HasFailed number slots

@@ -4,7 +4,7 @@ use Rattle.atomic_table.specs.Seated.{TableId}
 use Rattle.ppq_pass.specs.ppq_table.Sums.{all_shares}
 use Rattle.ppq_pass.specs.ppq_outside.Shown.{Shown}
 use Rattle.ppq_pass.specs.ppq_array.Supply.{Stock}
-use Rattle.ppq_pass.specs.ppq_array.Owner.{slots_shown, HasSize}
+use Rattle.ppq_pass.specs.ppq_array.Owner.{slots_shown, HasSlot}
 use Rattle.ppq_pass.specs.ppq_array.declared.berth.DeviceBlock.{DeviceBlock}
 use Rattle.ppq_pass.specs.ppq_pool.Known.{Known as PoolKnown}
 use Rattle.ppq_pass.specs.ppq_pool.Seats.{count_of}
@@ -29,7 +29,7 @@ module _ {S R : Type 0} (shown : S → Shown) (width : ℕ) where
     pub shares : seat.hand.shares ≡ all_shares
     pub undrawn : seat.hand.places ≡ []
     pub items : slots_shown shown seat.hand.items ≡ kept
-    pub bytes : All (HasSize shown (block * width)) seat.hand.items
+    pub bytes : All (HasSlot shown (block * width)) seat.hand.items
 
 -- a pool of so many buffers of one size, and a seat that has all shares and has taken nothing
 pub record IsFirstPool {R : Type 0} (count block : ℕ) (pool : TableId) (seat : PoolKnown (PoolBuf R)) : Type 0 where

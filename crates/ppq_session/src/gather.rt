@@ -1,7 +1,7 @@
 //! Passes that are put into the parts of a queue.
 ghost use Rattle.std.specs.Prelude.{◌≡◌, ◌≤◌, ◌<◌, ◌+◌, ◌-◌, ◌*◌, ◌^◌, [], ◌∷◌, length, map, reverse, All};
 ghost use Rattle.ppq_pass.specs.ppq_array.Owner.{slots_shown};
-ghost use Rattle.ppq_pass.specs.ppq_array.Holdings.{ArrayHasSize, internal_buffers, external_buffers, external_slots};
+ghost use Rattle.ppq_pass.specs.ppq_array.Holdings.{HasSlots, internal_buffers, external_buffers, external_slots};
 ghost use Rattle.ppq_pass.specs.ppq_array.Run.{buffers_of};
 ghost use Rattle.ppq_session.specs.Ends.{first_some};
 ghost use Rattle.ppq_session.specs.Gathering.{Adopted, CanAdopt, GetsBack, MayGather, Gathers};
@@ -89,7 +89,7 @@ fn dissolve<S: Slot + Send + Sync, R: Record + Send + Sync>(
     supply: &mut OwnerLists<S, R>,
 )
     requires room { length (external_slots S.shown body.runs.external.items) ≤ supply.old.slot_room }
-    requires sizes { All (ArrayHasSize S.shown (supply.old.block * R.WIDTH)) body.runs.external.items }
+    requires sizes { All (HasSlots S.shown (supply.old.block * R.WIDTH)) body.runs.external.items }
     requires few { length idle.old + internal_buffers body.runs.internal.items + external_buffers body.runs.external.items + length body.lanes.idle < 2 ^ 32 - 1 }
     ensures back { GetsBack (external_slots S.shown body.runs.external.items) supply.old supply.new }
     ensures idle { length idle.new ≡ length idle.old + internal_buffers body.runs.internal.items + external_buffers body.runs.external.items + length body.lanes.idle }
@@ -131,7 +131,7 @@ fn empty_arrays<S: Slot + Send + Sync, R: Record + Send + Sync>(
     supply: &mut OwnerLists<S, R>,
 )
     requires room { length (external_slots S.shown arrays.items) ≤ supply.old.slot_room }
-    requires sizes { All (ArrayHasSize S.shown (supply.old.block * R.WIDTH)) arrays.items }
+    requires sizes { All (HasSlots S.shown (supply.old.block * R.WIDTH)) arrays.items }
     requires few { length idle.old + external_buffers arrays.items < 2 ^ 32 - 1 }
     ensures back { GetsBack (external_slots S.shown arrays.items) supply.old supply.new }
     ensures idle { length idle.new ≡ length idle.old + external_buffers arrays.items }
@@ -149,7 +149,7 @@ fn empty_array<S: Slot + Send + Sync, R: Record + Send + Sync>(
     supply: &mut OwnerLists<S, R>,
 )
     requires room { length array.stored ≤ supply.old.slot_room }
-    requires sizes { ArrayHasSize S.shown (supply.old.block * R.WIDTH) array }
+    requires sizes { HasSlots S.shown (supply.old.block * R.WIDTH) array }
     requires few { length idle.old + length (buffers_of array.loaded) < 2 ^ 32 - 1 }
     ensures back { GetsBack (slots_shown S.shown array.stored) supply.old supply.new }
     ensures idle { length idle.new ≡ length idle.old + length (buffers_of array.loaded) }
@@ -179,7 +179,7 @@ fn empty_loaded<S: Slot, R: Record>(
 // Puts the slots of a run in blocks into a supply.
 fn free_stored<S: Slot, R: Record>(array: ExternalArray<S, R>, supply: &mut OwnerLists<S, R>)
     requires room { length array.stored ≤ supply.old.slot_room }
-    requires sizes { ArrayHasSize S.shown (supply.old.block * R.WIDTH) array }
+    requires sizes { HasSlots S.shown (supply.old.block * R.WIDTH) array }
     ensures { GetsBack (slots_shown S.shown array.stored) supply.old supply.new }
 {
     let mut array = array;

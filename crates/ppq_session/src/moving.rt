@@ -1,6 +1,6 @@
 //! Lists that are moved into others.
 ghost use Rattle.std.specs.Prelude.{◌≡◌, ◌≤◌, ◌<◌, ◌+◌, ◌-◌, ◌*◌, ◌^◌, ◌++◌, length, reverse, All, vec_capacity};
-ghost use Rattle.ppq_pass.specs.ppq_array.Owner.{HasSize, slots_shown};
+ghost use Rattle.ppq_pass.specs.ppq_array.Owner.{HasSlot, slots_shown};
 ghost use Rattle.ppq_queue.specs.Slots.{with_slots};
 
 use ppq_pass::{BerthList, BufList, OwnerLists, Record, Slot, free_slot};
@@ -31,7 +31,7 @@ pub fn move_buffers<R: Record>(from: BufList<R>, to: &mut BufList<R>)
 /// Puts all slots of a list into a supply, in order.
 pub fn free_all<S: Slot, R: Record>(supply: &mut OwnerLists<S, R>, slots: BerthList<S, R>)
     requires room { length slots ≤ supply.old.slot_room }
-    requires sizes { All (HasSize S.shown (supply.old.block * R.WIDTH)) slots }
+    requires sizes { All (HasSlot S.shown (supply.old.block * R.WIDTH)) slots }
     ensures stock { supply.new ≡ with_slots supply.old (supply.old.kept ++ slots_shown S.shown slots) (supply.old.slot_room - length slots) }
 {
     let mut slots = slots;

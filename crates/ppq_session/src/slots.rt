@@ -1,6 +1,6 @@
 //! Slots and buffers that leave a supply and come back to it.
 ghost use Rattle.std.specs.Prelude.{◌≡◌, ◌≤◌, ◌+◌, ◌-◌, ◌*◌, ◌++◌, [], length, reverse, All, vec_capacity};
-ghost use Rattle.ppq_pass.specs.ppq_array.Owner.{HasSize, slots_shown};
+ghost use Rattle.ppq_pass.specs.ppq_array.Owner.{HasSlot, slots_shown};
 ghost use Rattle.ppq_queue.specs.Slots.{with_slots, with_pool};
 
 use ppq_pass::{Berth, OwnerLists, PoolBuf, Record, Slot, Supply, free_slot, give_buffer};
@@ -8,9 +8,9 @@ use ppq_pass::{Berth, OwnerLists, PoolBuf, Record, Slot, Supply, free_slot, give
 /// Moves all free slots of a supply to the end of a list, in order.
 pub fn take_slots<S: Slot, R: Record>(supply: &mut OwnerLists<S, R>, slots: &mut Vec<Berth<S, R>>)
     requires room { length slots.old.items + length supply.old.kept ≤ vec_capacity slots.old }
-    requires sizes { All (HasSize S.shown (supply.old.block * R.WIDTH)) slots.old.items }
+    requires sizes { All (HasSlot S.shown (supply.old.block * R.WIDTH)) slots.old.items }
     ensures shown { slots_shown S.shown slots.new.items ≡ slots_shown S.shown slots.old.items ++ supply.old.kept }
-    ensures sizes { All (HasSize S.shown (supply.old.block * R.WIDTH)) slots.new.items }
+    ensures sizes { All (HasSlot S.shown (supply.old.block * R.WIDTH)) slots.new.items }
     ensures stock { supply.new ≡ with_slots supply.old [] (supply.old.slot_room + length supply.old.kept) }
 {
     'taking: while supply.free_slots() > 0 {
@@ -22,7 +22,7 @@ pub fn take_slots<S: Slot, R: Record>(supply: &mut OwnerLists<S, R>, slots: &mut
 /// Puts slots back into a supply, in order.
 pub fn put_slots<S: Slot, R: Record>(supply: &mut OwnerLists<S, R>, slots: Vec<Berth<S, R>>)
     requires room { length slots.items ≤ supply.old.slot_room }
-    requires sizes { All (HasSize S.shown (supply.old.block * R.WIDTH)) slots.items }
+    requires sizes { All (HasSlot S.shown (supply.old.block * R.WIDTH)) slots.items }
     ensures stock { supply.new ≡ with_slots supply.old (supply.old.kept ++ slots_shown S.shown slots.items) (supply.old.slot_room - length slots.items) }
 {
     let mut slots = slots;
@@ -33,7 +33,7 @@ pub fn put_slots<S: Slot, R: Record>(supply: &mut OwnerLists<S, R>, slots: Vec<B
 // Puts slots back into a supply, the last first.
 fn put_last<S: Slot, R: Record>(supply: &mut OwnerLists<S, R>, slots: &mut Vec<Berth<S, R>>)
     requires room { length slots.old.items ≤ supply.old.slot_room }
-    requires sizes { All (HasSize S.shown (supply.old.block * R.WIDTH)) slots.old.items }
+    requires sizes { All (HasSlot S.shown (supply.old.block * R.WIDTH)) slots.old.items }
     ensures stock { supply.new ≡ with_slots supply.old (supply.old.kept ++ slots_shown S.shown (reverse slots.old.items)) (supply.old.slot_room - length slots.old.items) }
 {
     'putting: while let Some(berth) = slots.pop() {

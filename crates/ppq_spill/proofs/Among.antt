@@ -7,8 +7,8 @@ use Rattle.ppq_fetch.specs.ppq_block.Block.{Block}
 use Rattle.ppq_fetch.specs.ppq_outside.Shown.{Shown, AllTell}
 use Rattle.ppq_fetch.specs.ppq_array.External.{External, size_of, IsPacked}
 use Rattle.ppq_fetch.specs.ppq_array.Supply.{Stock}
-use Rattle.ppq_fetch.specs.ppq_array.Owner.{HasBlock, HasSize}
-use Rattle.ppq_fetch.specs.ppq_array.Holdings.{external_slots, RunHasBlock, ArrayHasSize}
+use Rattle.ppq_fetch.specs.ppq_array.Owner.{HasBlock, HasSlot}
+use Rattle.ppq_fetch.specs.ppq_array.Holdings.{external_slots, RunHasBlock, HasSlots}
 use Rattle.ppq_fetch.specs.Fetching.{blocks_in, count_in}
 use Rattle.ppq_spill.specs.Making.{Table, table, table_slots, total, held_slots, loaded_count, AllFull, AllFit, BetweenBatches, Merging, MergedOn, IsRising, HasNothing}
 use Rattle.ppq_spill.specs.Untold.{untold}
@@ -48,10 +48,10 @@ module _ {S R : Type 0} (shown : S → Shown) (width : ℕ) (others : List Shown
         rest = record { block = block_n; drawn = drawn; buffers = buffers };
         room = omega (arith, m.room, room);
         buffers = omega (arith, m.buffers, long_o, long_n);
-        sizes = subst (λ b. All (HasSize shown (b * width)) (n.hand.made.stored ++ n.hand.berths)) (sym block_o) m.sizes;
+        sizes = subst (λ b. All (HasSlot shown (b * width)) (n.hand.made.stored ++ n.hand.berths)) (sym block_o) m.sizes;
         written = m.written;
         same_idle = subst (λ b. All (HasBlock b) idle_n) (sym block_o) has;
-        same_external = subst (λ b. All (ArrayHasSize shown (b * width)) n.inputs) (sym block_o) m.same_external;
+        same_external = subst (λ b. All (HasSlots shown (b * width)) n.inputs) (sym block_o) m.same_external;
         same_loaded = subst (λ b. All (λ (a : External S R). RunHasBlock b a.loaded) n.inputs) (sym block_o) m.same_loaded;
       }
 
@@ -71,7 +71,7 @@ module _ {S R : Type 0} (shown : S → Shown) (width : ℕ) (others : List Shown
           sources = record {
             idle = subst (λ b. All (HasBlock b) idle_n) (sym (block_n ∙ block_o)) has;
             internal = λ k d h. absurd (omega arith);
-            external = subst (λ b. All (ArrayHasSize shown (b * width)) n.inputs) (sym same) s.external;
+            external = subst (λ b. All (HasSlots shown (b * width)) n.inputs) (sym same) s.external;
             loaded = subst (λ b. All (λ (a : External S R). RunHasBlock b a.loaded) n.inputs) (sym same) s.loaded;
             internal_fitting = λ k d h. absurd (omega arith);
             fitting = s.fitting;
@@ -95,7 +95,7 @@ module _ {S R : Type 0} (shown : S → Shown) (width : ℕ) (others : List Shown
         fit = subst (λ b. All (λ (a : External S R). AllFit b a.stored) n.inputs) (sym same) r.fit;
         enough = subst (λ b. size_of n.hand.made + loaded_count n.inputs ≤ (length stored + length n.hand.berths + length sn.kept) * b) (sym same) (omega (arith, r.enough, slots));
         few = subst (λ b. total n ≤ (2 ^ 32 - 2) * b) (sym same) r.few;
-        sizes = subst (λ b. All (HasSize shown (b * width)) (stored ++ n.hand.berths)) (sym same) r.sizes;
+        sizes = subst (λ b. All (HasSlot shown (b * width)) (stored ++ n.hand.berths)) (sym same) r.sizes;
         room = fits;
         buffers = omega (arith, enough);
       }

@@ -7,7 +7,7 @@ use Rattle.std.proofs.lemmas.List.{take_all, length-take, length-drop}
 use Rattle.std.proofs.lemmas.List.Elements.{All-nil, All-append}
 use Rattle.ppq_fetch.specs.ppq_block.Block.{Block}
 use Rattle.ppq_fetch.specs.ppq_outside.Shown.{Shown, AllTell}
-use Rattle.ppq_fetch.specs.ppq_array.Owner.{HasBlock, HasSize}
+use Rattle.ppq_fetch.specs.ppq_array.Owner.{HasBlock, HasSlot}
 use Rattle.ppq_fetch.specs.ppq_array.Kept.{AreQuiet}
 use Rattle.ppq_fetch.proofs.ppq_array.Noted.{all_right}
 use Rattle.ppq_fetch.specs.ppq_array.declared.berth.DeviceBlock.{DeviceBlock}
@@ -164,7 +164,7 @@ module _ {S R : Type 0} (record_of : List ℕ → R) (width block : ℕ) (shown 
         some = omega (arith, n_is, is, more, some);
         fit = omega (arith, n_is, is, more, block');
         slots = omega (arith, all, long, fewer);
-        sizes = subst (λ b. All (HasSize shown (b * width)) now.berths) block' (all_right (HasSize shown (block * width)) now.made.stored now.berths (subst (λ k. All (HasSize shown k) (now.made.stored ++ now.berths)) bytes_is (batch.wrote.sizes (subst (λ k. All (HasSize shown k) (old.made.stored ++ old.berths)) (ap (λ b. b * width) (sym block_is) ∙ sym bytes_is) may.sizes))));
+        sizes = subst (λ b. All (HasSlot shown (b * width)) now.berths) block' (all_right (HasSlot shown (block * width)) now.made.stored now.berths (subst (λ k. All (HasSlot shown k) (now.made.stored ++ now.berths)) bytes_is (batch.wrote.sizes (subst (λ k. All (HasSlot shown k) (old.made.stored ++ old.berths)) (ap (λ b. b * width) (sym block_is) ∙ sym bytes_is) may.sizes))));
         takes_back = omega (arith, batch.wrote.room, may.takes_back);
         room = omega (arith, long, blocks);
         few = omega (arith, new_size, few, most, is, more, n_is);

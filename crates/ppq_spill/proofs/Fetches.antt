@@ -10,7 +10,7 @@ use Rattle.ppq_fetch.specs.ppq_outside.Shown.{Shown}
 use Rattle.ppq_fetch.specs.ppq_array.declared.berth.DeviceBlock.{DeviceBlock}
 use Rattle.ppq_fetch.specs.ppq_array.Run.{items_of}
 use Rattle.ppq_fetch.specs.ppq_array.External.{External, size_of, counts}
-use Rattle.ppq_fetch.specs.ppq_array.Kept.{SameSlots, weight_at}
+use Rattle.ppq_fetch.specs.ppq_array.Kept.{SameSlots, weight_at, overread}
 use Rattle.ppq_fetch.specs.ppq_array.Owner.{slots_shown}
 use Rattle.ppq_fetch.specs.ppq_array.Holdings.{external_slots, internal_buffers}
 use Rattle.ppq_fetch.specs.Fetching.{State, slots_in, WentOn, PartsKept, blocks_in}
@@ -94,6 +94,8 @@ same_but a b a' b' d d' e same =
       faults = λ n. let f = weight_at (λ s. s.faults) n in omega (arith, sum_by-append f (a ++ b) d', sum_by-append f (a' ++ b') d, ap (sum_by f) e, same.faults n);
       writes = λ n. let f = weight_at (λ s. s.writes) n in omega (arith, sum_by-append f (a ++ b) d', sum_by-append f (a' ++ b') d, ap (sum_by f) e, same.writes n);
       reads = λ n. let f = weight_at (λ s. s.reads) n in omega (arith, sum_by-append f (a ++ b) d', sum_by-append f (a' ++ b') d, ap (sum_by f) e, same.reads n);
+      sizes = λ n. let f = weight_at (λ s. s.size) n in omega (arith, sum_by-append f (a ++ b) d', sum_by-append f (a' ++ b') d, ap (sum_by f) e, same.sizes n);
+      overreads = omega (arith, sum_by-append overread (a ++ b) d', sum_by-append overread (a' ++ b') d, ap (sum_by overread) e, same.overreads);
     }
 
 module _ {S R : Type 0} (shown : S → Shown) where

@@ -6,7 +6,7 @@ use Rattle.ppq_fetch.specs.ppq_outside.Shown.{Shown}
 use Rattle.ppq_fetch.specs.ppq_array.External.{External}
 use Rattle.ppq_fetch.specs.ppq_array.Supply.{Stock}
 use Rattle.ppq_fetch.specs.ppq_array.Owner.{HasBlock}
-use Rattle.ppq_fetch.specs.ppq_array.Holdings.{external_buffers, RunHasBlock, ArrayHasSize}
+use Rattle.ppq_fetch.specs.ppq_array.Holdings.{external_buffers, RunHasBlock, HasSlots}
 use Rattle.ppq_fetch.specs.Fetching.{state, AreSources, MayFetch, PartsKept, Fetched}
 
 module _ {S R : Type 0} (shown : S → Shown) (width ahead : ℕ) where
@@ -18,7 +18,7 @@ module _ {S R : Type 0} (shown : S → Shown) (width ahead : ℕ) where
       record {
         idle = subst (λ k. All (HasBlock k) idle') (sym block) blocks;
         internal = subst (λ k. All (RunHasBlock {R = R} k) []) (sym block) is.internal;
-        external = subst (λ k. All (ArrayHasSize shown (k * width)) ext) (sym block) is.external;
+        external = subst (λ k. All (HasSlots shown (k * width)) ext) (sym block) is.external;
         loaded = subst (λ k. All (λ (a : External S R). RunHasBlock k a.loaded) ext) (sym block) is.loaded;
         internal_fitting = is.internal_fitting;
         fitting = is.fitting;

@@ -6,7 +6,7 @@ use Rattle.ppq_fetch.specs.ppq_outside.Shown.{Shown}
 use Rattle.ppq_fetch.specs.ppq_array.Run.{Run, items_of}
 use Rattle.ppq_fetch.specs.ppq_array.Supply.{Stock}
 use Rattle.ppq_fetch.specs.ppq_array.Owner.{HasBlock}
-use Rattle.ppq_fetch.specs.ppq_array.Holdings.{internal_items, internal_buffers, external_slots, RunHasBlock, ArrayHasSize}
+use Rattle.ppq_fetch.specs.ppq_array.Holdings.{internal_items, internal_buffers, external_slots, RunHasBlock, HasSlots}
 use Rattle.ppq_spill.specs.declared.body.PassBody.{PassBody}
 use Rattle.ppq_spill.specs.Body.{IsNewBody}
 use Rattle.ppq_spill.specs.Storing.{MayStore, RunsAscend}
@@ -28,7 +28,7 @@ module _ {S R : Type 0} (shown : S → Shown) (width : ℕ) where
           small = subst (λ b. b ≤ 65536) (sym same) small;
           idle = subst (λ b. All (HasBlock b) body.lanes.idle) (sym same) is.blocks;
           internal = subst (All (RunHasBlock stock.block)) (sym none) (λ k d h. absurd (omega arith));
-          external = subst (All (ArrayHasSize shown (stock.block * width))) (sym is.no_external) (λ k d h. absurd (omega arith));
+          external = subst (All (HasSlots shown (stock.block * width))) (sym is.no_external) (λ k d h. absurd (omega arith));
         };
         buffer = omega (arith, is.two);
         few_idle = omega (arith, is.two);

@@ -4,7 +4,7 @@ use Rattle.std.proofs.lemmas.List.Sums.{sum_by-cons, sum_by-append}
 use Rattle.std.proofs.lemmas.List.Elements.{All-cons, All-head, All-nil}
 use Rattle.ppq_fetch.specs.ppq_outside.Shown.{Shown, Tells}
 use Rattle.ppq_fetch.specs.ppq_array.Supply.{Stock}
-use Rattle.ppq_fetch.specs.ppq_array.Kept.{SameSums, AreQuiet, MoreWrites, weight_at, all_faults}
+use Rattle.ppq_fetch.specs.ppq_array.Kept.{SameSums, AreQuiet, MoreWrites, weight_at, all_faults, overread}
 use Rattle.ppq_spill.specs.Went.{Went, WentWriting, AtLeast}
 use Rattle.ppq_spill.specs.Writing.{Grew}
 use Rattle.ppq_spill.proofs.SameSlots.{SameSlots-refl, SameSlots-trans, SameSlots-grown}
@@ -45,6 +45,8 @@ Went-placed w r xs a b a' b' before now went =
         faults = λ n. let f = weight_at (λ s. s.faults) n in omega (arith, before f, now f, went.same.faults n);
         writes = λ n. let f = weight_at (λ s. s.writes) n in omega (arith, before f, now f, went.same.writes n);
         reads = λ n. let f = weight_at (λ s. s.reads) n in omega (arith, before f, now f, went.same.reads n);
+        sizes = λ n. let f = weight_at (λ s. s.size) n in omega (arith, before f, now f, went.same.sizes n);
+        overreads = omega (arith, before overread, now overread, went.same.overreads);
       };
       calls = record {
         written = omega (arith, before w_of, now w_of, went.calls.written);

@@ -17,7 +17,7 @@ use Rattle.ppq_fetch.specs.ppq_lane.declared.job.Job.{Job}
 use Rattle.ppq_fetch.specs.ppq_array.declared.berth.DeviceBlock.{DeviceBlock}
 use Rattle.ppq_fetch.specs.ppq_array.Run.{Run, run_of, buffers_of}
 use Rattle.ppq_fetch.specs.ppq_array.External.{External, external, block_items}
-use Rattle.ppq_fetch.specs.ppq_array.Owner.{slots_shown, HasSize}
+use Rattle.ppq_fetch.specs.ppq_array.Owner.{slots_shown, HasSlot}
 use Rattle.ppq_fetch.specs.ppq_array.Kept.{MoreWrites}
 use Rattle.ppq_fetch.proofs.ppq_array.Noted.{all_left, all_right}
 use Rattle.ppq_spill.specs.Writing.{Grew, BlockStored, WriteFailed, Writing}
@@ -28,7 +28,7 @@ use Rattle.ppq_spill.proofs.Going.{WentWriting-more, WentWriting-placed, WentWri
 use Rattle.ppq_spill.proofs.Keeping.{slots_long}
 use Rattle.ppq_spill.proofs.Transfers.{one_slot, one_least}
 use Rattle.ppq_spill.proofs.Writings.{Writing-more}
-use Rattle.ppq_spill.proofs.Written.{some_is, grew_written, block_stored, block_failed}
+use Rattle.ppq_spill.proofs.Written.{some_is, grew_written, grown_slot, block_stored, block_failed}
 
 -- a count that rose once at most
 one_more : {T E : Type 0} (answer : Result T E) (before now : ℕ) → Counts answer before now → now ≤ before + 1
@@ -84,16 +84,16 @@ module _ {S R : Type 0} (cmp : R → R → Ordering) (bytes_of : R → List ℕ)
   same_bufs (j ∷ js) (d ∷ ds) is zip =
       ap (λ b. b ∷ map buf_of ds) (wrote j d (All-head IsWrite j js is) zip.0).same ∙ ap (λ bs. j.buf ∷ bs) (same_bufs js ds (All-tail IsWrite j js is) zip.1)
 
-  -- and the slots have the size that they had
+  -- and the slots are those of a supply still
   abbrev Sized : DeviceBlock S R → Type 0
-  Sized = HasSize {S = S} {R = R} shown (block * width)
+  Sized = HasSlot {S = S} {R = R} shown (block * width)
 
   pub sized_all : (js ds : List (Job (DeviceBlock S R) R)) → All IsWrite js → AllZip Ran js ds → All Sized (map slot_of js) → All Sized (map slot_of ds)
   sized_all [] [] is zip sizes = sizes
   sized_all [] (d ∷ ds) is zip sizes = absurd zip
   sized_all (j ∷ js) [] is zip sizes = absurd zip
   sized_all (j ∷ js) (d ∷ ds) is zip sizes =
-      All-cons Sized d.slot (map slot_of ds) ((called j d (All-head IsWrite j js is) zip.0).grew.size ∙ All-head Sized j.slot (map slot_of js) sizes)
+      All-cons Sized d.slot (map slot_of ds) (grown_slot (block * width) (shown j.slot.slot) (shown d.slot.slot) (called j d (All-head IsWrite j js is) zip.0).grew (All-head Sized j.slot (map slot_of js) sizes))
       (sized_all js ds (All-tail IsWrite j js is) zip.1 (All-tail Sized j.slot (map slot_of js) sizes))
 
   abbrev written_run : List (DeviceBlock S R) → External S R
@@ -207,7 +207,7 @@ module _ {S R : Type 0} (cmp : R → R → Ordering) (bytes_of : R → List ℕ)
         let laters = sized_all js later (All-tail IsWrite j js is) zip (all_left Sized (map slot_of js) berths after) in
         record {
           sizes = All-append Sized array.stored (bad.slot ∷ (berths ++ map slot_of later)) (all_left Sized array.stored (j.slot ∷ (map slot_of js ++ berths)) writing.sizes)
-              (All-cons Sized bad.slot (berths ++ map slot_of later) (put.grew.size ∙ All-head Sized j.slot (map slot_of js ++ berths) behind) (All-append Sized berths (map slot_of later) (all_right Sized (map slot_of js) berths after) laters));
+              (All-cons Sized bad.slot (berths ++ map slot_of later) (grown_slot (block * width) s t put.grew (All-head Sized j.slot (map slot_of js ++ berths) behind)) (All-append Sized berths (map slot_of later) (all_right Sized (map slot_of js) berths after) laters));
           shape = refl;
           went = subst (λ ys. WentWriting (length slots0) s0 (xs ++ t ∷ ys)) (sym to) (WentWriting-weaker (n + length l) (length slots0) s0 (xs ++ t ∷ (b ++ l')) few placed);
           buffers = same ∙ writing.buffers;

@@ -1,7 +1,8 @@
 -- A run that is written group by group.
-use Rattle.std.proofs.Common.{◌≡◌, ℕ, zero, suc, ◌+◌, ◌*◌, ◌<◌, ◌≤◌, List, [], ◌∷◌, ◌++◌, length, map, min, take, drop, sum_by, All, IsSome, refl, sym, ap, ◌∙◌, subst, arith, length-append}
+use Rattle.std.proofs.Common.{◌≡◌, ℕ, zero, suc, Ok, ◌+◌, ◌*◌, ◌<◌, ◌≤◌, List, [], ◌∷◌, ◌++◌, length, map, min, take, drop, sum_by, All, IsSome, refl, sym, ap, ◌∙◌, subst, arith, length-append}
 use Rattle.std.specs.List.{AllZip}
 use Rattle.std.proofs.lemmas.Nat.{mul-le}
+use Rattle.std.proofs.lemmas.Result.{IfOk-at_ok}
 use Rattle.std.proofs.lemmas.List.{take-append-le, length-map}
 use Rattle.std.proofs.lemmas.List.Elements.{All-cons, All-head, All-tail, All-nil, All-append}
 use Rattle.std.specs.Cmp.{IsStrictWeakOrder}
@@ -10,12 +11,13 @@ use Rattle.ppq_fetch.specs.ppq_record.Order.{is_before}
 use Rattle.ppq_fetch.specs.ppq_record.Bag.{first_of}
 use Rattle.ppq_fetch.specs.ppq_block.Block.{Block, holding}
 use Rattle.ppq_fetch.specs.ppq_outside.Shown.{Shown}
+use Rattle.ppq_fetch.specs.ppq_outside.Told.{next_count}
 use Rattle.ppq_fetch.specs.ppq_lane.Jobs.{MayRun}
 use Rattle.ppq_fetch.specs.ppq_lane.declared.job.Job.{Job}
 use Rattle.ppq_fetch.specs.ppq_array.declared.berth.DeviceBlock.{DeviceBlock}
 use Rattle.ppq_fetch.specs.ppq_array.Run.{Run, run_of, buffers_of}
 use Rattle.ppq_fetch.specs.ppq_array.External.{External, external, size_of}
-use Rattle.ppq_fetch.specs.ppq_array.Owner.{HasSize, HasBlock, slots_shown}
+use Rattle.ppq_fetch.specs.ppq_array.Owner.{HasSlot, HasBlock, slots_shown}
 use Rattle.ppq_fetch.proofs.ppq_array.Noted.{all_left, all_right, take_whole}
 use Rattle.ppq_spill.specs.declared.body.PassBody.{PassBody}
 use Rattle.ppq_spill.specs.declared.new_array.NewArray.{NewArray}
@@ -25,7 +27,7 @@ use Rattle.ppq_spill.proofs.Filled.{MergedInto-buffers, MergedInto-count, Merged
 use Rattle.ppq_spill.proofs.Grouped.{Ran, wrote, told_items, same_bufs, group_written, group_failed}
 use Rattle.ppq_spill.proofs.Jobs.{items_same, may_run}
 use Rattle.ppq_spill.proofs.Keeping.{slots_long}
-use Rattle.ppq_spill.proofs.Written.{grew_written}
+use Rattle.ppq_spill.proofs.Written.{some_is, grew_written, unread_after}
 
 -- a slice that was lent by a list of its length
 pub lent_back : {X : Type 0} (n : ℕ) (xs zs : List X) → n ≡ length xs → take n (xs ++ zs) ≡ xs
@@ -58,7 +60,7 @@ module _ {R : Type 0} (block : ℕ) where
 
 module _ {S R : Type 0} (cmp : R → R → Ordering) (bytes_of : R → List ℕ) (record_of : List ℕ → R) (width block : ℕ) (shown : S → Shown) where
   abbrev Sized : DeviceBlock S R → Type 0
-  Sized = HasSize {S = S} {R = R} shown (block * width)
+  Sized = HasSlot {S = S} {R = R} shown (block * width)
 
   abbrev AllRan : List (Job (DeviceBlock S R) R) → List (Job (DeviceBlock S R) R) → Type 0
   AllRan js ds = AllZip (Ran cmp bytes_of record_of width block shown) js ds
@@ -70,14 +72,17 @@ module _ {S R : Type 0} (cmp : R → R → Ordering) (bytes_of : R → List ℕ)
       let grew = grew_written bytes_of record_of width shown done.answer (shown j.slot.slot) (shown d.slot.slot) j.buf d.buf w in
       let has : 0 < length d.buf.items = subst (λ (b : Block R). 0 < length b.items) (sym w.same) some in
       let few : length d.buf.items ≤ block = subst (λ (b : Block R). length b.items ≤ block) (sym w.same) fit in
+      let once : IsGood d → (shown d.slot.slot).writes ≡ next_count (shown j.slot.slot).writes =
+      λ good. IfOk-at_ok (λ _. (shown d.slot.slot).writes ≡ next_count (shown j.slot.slot).writes) (some_is (Ok good.0) done.answer (Ok good.0) (sym done.done ∙ good.1)) w.wrote.writes.ok in
       record {
         done = subst IsSome (sym done.done) refl;
         some = has;
         labelled = λ good.
             record {
               some = has;
-              fits = subst (λ n. length d.buf.items * width ≤ n) (sym (grew.size ∙ sized)) (mul-le (length d.buf.items) width block width few (omega arith));
+              fits = subst (λ n. length d.buf.items * width ≤ n) (sym (grew.size ∙ sized.size)) (mul-le (length d.buf.items) width block width few (omega arith));
               labelled = some_first d.buf.items has;
+              unread = unread_after (shown j.slot.slot) (shown d.slot.slot) (once good) w.wrote.reads sized.spent;
               first = λ t. ap (λ (b : Block R). first_of b.items) w.same ∙ ap first_of (sym (told_items cmp bytes_of record_of width block shown j d is done good (grew.told t)));
             };
       }

@@ -8,7 +8,7 @@ use Rattle.ppq_fetch.specs.ppq_outside.Shown.{Shown}
 use Rattle.ppq_fetch.specs.ppq_lane.Jobs.{FitsKind, MayRun}
 use Rattle.ppq_fetch.specs.ppq_lane.declared.job.Job.{Job}
 use Rattle.ppq_fetch.specs.ppq_array.declared.berth.DeviceBlock.{DeviceBlock}
-use Rattle.ppq_fetch.specs.ppq_array.Owner.{HasSize}
+use Rattle.ppq_fetch.specs.ppq_array.Owner.{HasSlot}
 use Rattle.ppq_spill.specs.Grouping.{slot_of, buf_of, IsWrite, items_in}
 
 -- one more of a list, and what comes after it
@@ -50,13 +50,13 @@ module _ {S R : Type 0} where
     settled buf e = ap (λ (b : Block R). b.raw) e
 
     -- jobs that write buffers of a block to slots of its size may be run
-    pub may_run : (js : List (Job (DeviceBlock S R) R)) → All IsWrite js → All (HasSize shown (block * width)) (map slot_of js) → All (λ (b : Block R). b ≡ holding block b.items) (map buf_of js) → All May js
+    pub may_run : (js : List (Job (DeviceBlock S R) R)) → All IsWrite js → All (HasSlot shown (block * width)) (map slot_of js) → All (λ (b : Block R). b ≡ holding block b.items) (map buf_of js) → All May js
     may_run [] is sizes bufs = All-nil May
     may_run (j ∷ js) is sizes bufs =
-        let Sized = HasSize {S = S} {R = R} shown (block * width) in
+        let Sized = HasSlot {S = S} {R = R} shown (block * width) in
         let Held : Block R → Type 0 = λ b. b ≡ holding block b.items in
         let kind = All-head IsWrite j js is in
         let held = All-head Held j.buf (map buf_of js) bufs in
         All-cons May j js
-        (record { size = ap (λ (b : Block R). b.block * width) held ∙ sym (All-head Sized j.slot (map slot_of js) sizes); kind = subst (λ k. FitsKind k j.buf) (sym kind) (settled j.buf held) })
+        (record { size = ap (λ (b : Block R). b.block * width) held ∙ sym (All-head Sized j.slot (map slot_of js) sizes).size; kind = subst (λ k. FitsKind k j.buf) (sym kind) (settled j.buf held) })
         (may_run js (All-tail IsWrite j js is) (All-tail Sized j.slot (map slot_of js) sizes) (All-tail Held j.buf (map buf_of js) bufs))

@@ -21,9 +21,9 @@ use Rattle.ppq_fetch.specs.ppq_array.declared.store_fault.StoreFault.TheVariants
 use Rattle.ppq_fetch.specs.ppq_array.Run.{run_of, items_of, buffers_of}
 use Rattle.ppq_fetch.specs.ppq_array.External.{External, external, size_of, counts, records_in, waiting, blocks_items, IsPacked}
 use Rattle.ppq_fetch.specs.ppq_array.Supply.{Stock}
-use Rattle.ppq_fetch.specs.ppq_array.Owner.{slots_shown, HasBlock, HasSize}
+use Rattle.ppq_fetch.specs.ppq_array.Owner.{slots_shown, HasBlock, HasSlot}
 use Rattle.ppq_fetch.specs.ppq_array.Kept.{Kept, HasFailed, SameSlots, AreQuiet, weight_at, all_faults}
-use Rattle.ppq_fetch.specs.ppq_array.Holdings.{external_slots, external_buffers, RunHasBlock, ArrayHasSize}
+use Rattle.ppq_fetch.specs.ppq_array.Holdings.{external_slots, external_buffers, RunHasBlock, HasSlots}
 use Rattle.ppq_fetch.proofs.ppq_array.Noted.{all_left}
 use Rattle.ppq_fetch.specs.Fetching.{state, source_items, waiting_items, IsFitting, blocks_in, one_if_some}
 use Rattle.ppq_spill.specs.Body.{job_slots}
@@ -265,21 +265,21 @@ module _ {S R : Type 0} (shown : S → Shown) (width level : ℕ) (old new other
 
   -- all is of one block size again
   pub level_size :
-      (lanes lanes' : Lanes (DeviceBlock S R) R) → AreOneSize shown width old lanes stock → lanes'.idle ≡ t.idle → All (ArrayHasSize shown (stock.block * width)) new → All (λ (a : External S R). RunHasBlock stock.block a.loaded) new
+      (lanes lanes' : Lanes (DeviceBlock S R) R) → AreOneSize shown width old lanes stock → lanes'.idle ≡ t.idle → All (HasSlots shown (stock.block * width)) new → All (λ (a : External S R). RunHasBlock stock.block a.loaded) new
       → AreOneSize shown width new lanes' now
   level_size lanes lanes' size idle external loaded =
       record {
         some = subst (λ b. 1 ≤ b) (sym block_is) size.some;
         small = subst (λ b. b ≤ 65536) (sym block_is) size.small;
         idle = subst (All (HasBlock now.block)) (sym idle) (subst (λ b. All (HasBlock b) t.idle) (start_block ∙ sym block_is) is.merging.same_idle);
-        external = subst (λ b. All (ArrayHasSize shown (b * width)) new) (sym block_is) external;
+        external = subst (λ b. All (HasSlots shown (b * width)) new) (sym block_is) external;
         loaded = subst (λ b. All (λ (a : External S R). RunHasBlock b a.loaded) new) (sym block_is) loaded;
         takes_back = omega (arith, level_room, size.takes_back);
       }
 
   -- what was made has the size of a block, and nothing loaded
-  pub made_size : ArrayHasSize shown (stock.block * width) t.hand.made
-  made_size = subst (λ b. All (HasSize shown (b * width)) t.hand.made.stored) start_block (all_left (HasSize shown (o.hand.stock.block * width)) t.hand.made.stored t.hand.berths is.merging.sizes)
+  pub made_size : HasSlots shown (stock.block * width) t.hand.made
+  made_size = subst (λ b. All (HasSlot shown (b * width)) t.hand.made.stored) start_block (all_left (HasSlot shown (o.hand.stock.block * width)) t.hand.made.stored t.hand.berths is.merging.sizes)
 
   -- 8 arrays became one
   module _ (lanes lanes' : Lanes (DeviceBlock S R) R) (workers : ℕ) (may : MayLevel shown width workers old lanes stock) (ready : BetweenBatches shown width workers t) (emptied : All HasNothing t.inputs) (same : total t ≡ total o)
@@ -325,7 +325,7 @@ module _ {S R : Type 0} (shown : S → Shown) (width level : ℕ) (old new other
         let k = external_buffers o.inputs + blocks_in o.inputs in
         let few : length t.hand.made.stored < k + 1 = fewer_than (length t.hand.made.stored) (k + 1) b (let e : (k + 1) * b ≡ k * b + b = (add-mul k 1 b ∙ (let z : k * b + 1 * b ≡ k * b + b = omega arith in z)) in omega (arith, e, tight, size_made, most)) in
         record {
-          size = level_size lanes lanes' size idle' (pushed (ArrayHasSize shown (b * width)) (kept_others (ArrayHasSize shown (b * width)) size.external) made_size)
+          size = level_size lanes lanes' size idle' (pushed (HasSlots shown (b * width)) (kept_others (HasSlots shown (b * width)) size.external) made_size)
               (pushed (λ (a : External S R). RunHasBlock b a.loaded) (kept_others (λ (a : External S R). RunHasBlock b a.loaded) size.loaded) (subst (λ run. RunHasBlock b run) (sym made_loaded) (All-nil (HasBlock {R = R} b))));
           lifted = pushed (λ (a : External S R). a.lifted ≡ []) (kept_others (λ (a : External S R). a.lifted ≡ []) may.lifted) (ap (λ a. a.lifted) ready.shape);
           spent = pushed (λ (a : External S R). a.loaded.spent ≡ []) (kept_others (λ (a : External S R). a.loaded.spent ≡ []) may.spent) (ap (λ run. run.spent) made_loaded);
@@ -519,11 +519,11 @@ module _ {S R : Type 0} (shown : S → Shown) (width workers level next : ℕ) (
       let b = stock.block in
       let block1 : stock1.block ≡ b = ap (λ s. s.block) drew.stock in
       let is = placed_failed new lanes'.idle now fault last in
-      let P : External S R → Type 0 = ArrayHasSize shown (b * width) in
+      let P : External S R → Type 0 = HasSlots shown (b * width) in
       let Q : External S R → Type 0 = λ a. RunHasBlock b a.loaded in
       let pm = made_size shown width level old new others start t stock now is in
       let qm : RunHasBlock b t.hand.made.loaded = subst (λ run. RunHasBlock b run) (sym (loaded_none last.failed.later t last.failed.merging)) (All-nil (HasBlock {R = R} b)) in
-      let pi = subst (λ k. All (ArrayHasSize shown (k * width)) t.inputs) block1 last.failed.merging.same_external in
+      let pi = subst (λ k. All (HasSlots shown (k * width)) t.inputs) block1 last.failed.merging.same_external in
       let qi = subst (λ k. All (λ (a : External S R). RunHasBlock k a.loaded) t.inputs) block1 last.failed.merging.same_loaded in
       level_size shown width level old new others start t stock now is lanes lanes' size last.idle_is
       (subst (All P) (sym last.arrays_are) (All-push P (others ++ t.inputs) t.hand.made (All-append P others t.inputs (others_all level old inputs others of P size.external) pi) pm))
@@ -620,7 +620,7 @@ module _ {S R : Type 0} (shown : S → Shown) (width workers level : ℕ) (old n
         some = subst (λ b. 1 ≤ b) (sym none_block) may.size.some;
         small = subst (λ b. b ≤ 65536) (sym none_block) may.size.small;
         idle = subst (λ b. All (HasBlock b) lanes.idle) (sym none_block) may.size.idle;
-        external = subst (λ b. All (ArrayHasSize shown (b * width)) new) (sym none_block) (all_new (ArrayHasSize shown (stock.block * width)) may.size.external);
+        external = subst (λ b. All (HasSlots shown (b * width)) new) (sym none_block) (all_new (HasSlots shown (stock.block * width)) may.size.external);
         loaded = subst (λ b. All (λ (a : External S R). RunHasBlock b a.loaded) new) (sym none_block) (all_new (λ (a : External S R). RunHasBlock stock.block a.loaded) may.size.loaded);
         takes_back = omega (arith, none_room, may.size.takes_back);
       }

@@ -8,10 +8,10 @@ use Rattle.ppq_fetch.specs.ppq_outside.Shown.{Shown}
 use Rattle.ppq_fetch.specs.ppq_array.declared.berth.DeviceBlock.{DeviceBlock}
 use Rattle.ppq_fetch.specs.ppq_array.Run.{items_of}
 use Rattle.ppq_fetch.specs.ppq_array.External.{External, external}
-use Rattle.ppq_fetch.specs.ppq_array.Owner.{slots_shown, HasBlock, HasSize}
+use Rattle.ppq_fetch.specs.ppq_array.Owner.{slots_shown, HasBlock, HasSlot}
 use Rattle.ppq_fetch.specs.ppq_array.Supply.{Stock, GetsSlot}
 use Rattle.ppq_fetch.specs.ppq_array.Kept.{AreQuiet, all_faults}
-use Rattle.ppq_fetch.specs.ppq_array.Holdings.{external_slots, external_buffers, ArrayHasSize, RunHasBlock}
+use Rattle.ppq_fetch.specs.ppq_array.Holdings.{external_slots, external_buffers, HasSlots, RunHasBlock}
 use Rattle.ppq_fetch.specs.Fetching.{State, state, slots_in, AreSources, PartsKept, blocks_in, fronts_in, one_if_some}
 use Rattle.ppq_fetch.proofs.Sums.{one_le}
 use Rattle.ppq_spill.specs.Went.{Went, AtLeast}
@@ -95,10 +95,10 @@ module _ {S R : Type 0} (shown : S → Shown) where
         rest = SameRest-trans o.hand.stock h.hand.stock n.hand.stock (parts_rest shown so sh refl refl parts) wrote.rest;
         room = omega (arith, ext, wrote.room, parts.kept.slot_room, ap length stored, ap length berths);
         buffers = omega (arith, parts.buffers, idle, ap external_buffers inputs);
-        sizes = wrote.sizes (subst (λ (a : External S R). All (HasSize shown (o.hand.stock.block * width)) (a.stored ++ h.hand.berths)) (sym made) (subst (λ bs. All (HasSize shown (o.hand.stock.block * width)) (o.hand.made.stored ++ bs)) (sym berths) ready.sizes));
+        sizes = wrote.sizes (subst (λ (a : External S R). All (HasSlot shown (o.hand.stock.block * width)) (a.stored ++ h.hand.berths)) (sym made) (subst (λ bs. All (HasSlot shown (o.hand.stock.block * width)) (o.hand.made.stored ++ bs)) (sym berths) ready.sizes));
         written = wrote.written;
         same_idle = is_idle;
-        same_external = subst (All (ArrayHasSize shown (o.hand.stock.block * width))) (sym inputs) (subst (λ b. All (ArrayHasSize shown (b * width)) h.inputs) block sources.external);
+        same_external = subst (All (HasSlots shown (o.hand.stock.block * width))) (sym inputs) (subst (λ b. All (HasSlots shown (b * width)) h.inputs) block sources.external);
         same_loaded = subst (All (λ (a : External S R). RunHasBlock o.hand.stock.block a.loaded)) (sym inputs) (subst (λ b. All (λ (a : External S R). RunHasBlock b a.loaded) h.inputs) block sources.loaded);
       }
 
@@ -182,10 +182,10 @@ module _ {S R : Type 0} (shown : S → Shown) where
         rest = SameRest-trans o.hand.stock h.hand.stock n.hand.stock a.rest b.rest;
         room = omega (arith, a.room, b.room);
         buffers = b.buffers ∙ a.buffers;
-        sizes = subst (λ k. All (HasSize shown (k * width)) (n.hand.made.stored ++ n.hand.berths)) block b.sizes;
+        sizes = subst (λ k. All (HasSlot shown (k * width)) (n.hand.made.stored ++ n.hand.berths)) block b.sizes;
         written = All-append W a.blocks b.blocks a.written b.written;
         same_idle = subst (λ k. All (HasBlock k) n.idle) block b.same_idle;
-        same_external = subst (λ k. All (ArrayHasSize shown (k * width)) n.inputs) block b.same_external;
+        same_external = subst (λ k. All (HasSlots shown (k * width)) n.inputs) block b.same_external;
         same_loaded = subst (λ k. All (λ (a : External S R). RunHasBlock k a.loaded) n.inputs) block b.same_loaded;
       }
 
@@ -224,7 +224,7 @@ module _ {S R : Type 0} (shown : S → Shown) where
         sizes = a.sizes;
         written = a.written;
         same_idle = subst (λ k. All (HasBlock k) idle) block sources.idle;
-        same_external = subst (λ k. All (ArrayHasSize shown (k * width)) inputs) block sources.external;
+        same_external = subst (λ k. All (HasSlots shown (k * width)) inputs) block sources.external;
         same_loaded = subst (λ k. All (λ (a : External S R). RunHasBlock k a.loaded) inputs) block sources.loaded;
       }
 
@@ -236,7 +236,7 @@ module _ {S R : Type 0} (shown : S → Shown) where
   Merging-freed width later o inputs idle made b berths stock stock' a gets some =
       let h = table inputs idle made (b ∷ berths) stock in
       let n = table inputs idle made berths stock' in
-      let P : DeviceBlock S R → Type 0 = HasSize shown (o.hand.stock.block * width) in
+      let P : DeviceBlock S R → Type 0 = HasSlot shown (o.hand.stock.block * width) in
       let w = length a.blocks + later in
       let r = blocks_in o.inputs - blocks_in inputs in
       let kept : stock'.kept ≡ stock.kept ++ shown b.slot ∷ [] = ap (λ s. s.kept) gets in

@@ -5,8 +5,8 @@ use Rattle.std.proofs.lemmas.List.Sums.{sum_by-cons, sum_by-append}
 use Rattle.std.proofs.lemmas.List.Elements.{All-nil, All-push}
 use Rattle.ppq_fetch.specs.ppq_outside.Shown.{Shown}
 use Rattle.ppq_fetch.specs.ppq_array.declared.berth.DeviceBlock.{DeviceBlock}
-use Rattle.ppq_fetch.specs.ppq_array.Supply.{Stock, DrawsFrom, DrawsSlot, GetsSlot, GetsBuffer}
-use Rattle.ppq_fetch.specs.ppq_array.Owner.{slots_shown, HasSize}
+use Rattle.ppq_fetch.specs.ppq_array.Supply.{Stock, DrawsFrom, DrawsSlot, GetsSlot, GetsBuffer, IsSlot}
+use Rattle.ppq_fetch.specs.ppq_array.Owner.{slots_shown, HasSlot}
 use Rattle.ppq_spill.specs.Moves.{with_buffers, DrewInOrder, DrewSlots}
 
 -- a buffer comes back
@@ -94,7 +94,7 @@ module _ {S R : Type 0} (shown : S → Shown) (width : ℕ) where
       record {
         in_order = record { fresh = []; drawn = sym (append-nil s.drawn); order = append-nil s.kept };
         moved = λ f. refl;
-        sizes = All-nil (HasSize {S = S} {R = R} shown (s.block * width));
+        sizes = All-nil (HasSlot {S = S} {R = R} shown (s.block * width));
         stock = (let e : s.slot_room ≡ s.slot_room + 0 = omega arith in ap (λ r. record s { slot_room = r }) e);
         sure = omega arith;
         left = omega arith;
@@ -102,7 +102,7 @@ module _ {S R : Type 0} (shown : S → Shown) (width : ℕ) where
 
   -- one slot more is drawn
   pub draws_more :
-      (old now next : Stock) (berths : List (DeviceBlock S R)) (b : DeviceBlock S R) → DrewSlots shown width old now berths → DrawsSlot now (shown b.slot) next → (shown b.slot).size ≡ now.block * width
+      (old now next : Stock) (berths : List (DeviceBlock S R)) (b : DeviceBlock S R) → DrewSlots shown width old now berths → DrawsSlot now (shown b.slot) next → IsSlot (now.block * width) (shown b.slot)
       → DrewSlots shown width old next (berths ++ b ∷ [])
   draws_more old now next berths b drew draws size =
       let one = draws_one now (shown b.slot) next draws in
@@ -125,7 +125,7 @@ module _ {S R : Type 0} (shown : S → Shown) (width : ℕ) where
           sum_by-append f (slots_shown shown berths) (shown b.slot ∷ []),
           sum_by-cons f (shown b.slot) [],
         );
-        sizes = All-push (HasSize shown (old.block * width)) berths b drew.sizes (size ∙ ap (λ k. k * width) block);
+        sizes = All-push (HasSlot shown (old.block * width)) berths b drew.sizes (subst (λ k. IsSlot (k * width) (shown b.slot)) block size);
         stock = one.stock ∙ ap₂ (λ (s : Stock) (r : ℕ). with_drawn s next.kept next.drawn r) drew.stock room;
         sure = omega (arith, one.sure, drew.sure, length-append berths (b ∷ []));
         left = omega (arith, one.left, drew.left, length-append berths (b ∷ []));

@@ -9,8 +9,8 @@ use Rattle.ppq_fetch.specs.ppq_array.declared.berth.DeviceBlock.{DeviceBlock}
 use Rattle.ppq_fetch.specs.ppq_array.declared.store_fault.StoreFault.TheVariants.{Device}
 use Rattle.ppq_fetch.specs.ppq_array.Run.{run_of}
 use Rattle.ppq_fetch.specs.ppq_array.External.{External, external, counts, block_items}
-use Rattle.ppq_fetch.specs.ppq_array.Supply.{Stock, GetsSlot}
-use Rattle.ppq_fetch.specs.ppq_array.Owner.{slots_shown, HasSize}
+use Rattle.ppq_fetch.specs.ppq_array.Supply.{Stock, GetsSlot, IsSlot}
+use Rattle.ppq_fetch.specs.ppq_array.Owner.{slots_shown, HasSlot}
 use Rattle.ppq_fetch.specs.ppq_array.Kept.{SameSums, HasFailed, weight_at}
 use Rattle.ppq_fetch.proofs.ppq_array.Noted.{all_left}
 use Rattle.ppq_spill.specs.Writing.{BlockStored, BlockFailed}
@@ -18,6 +18,7 @@ use Rattle.ppq_spill.specs.Went.{Went}
 use Rattle.ppq_spill.specs.Making.{Hand, hand, hand_slots, SameRest, Wrote, WroteAll, WroteSome}
 use Rattle.ppq_spill.proofs.Going.{Went-refl, Went-trans, Went-placed, Went-one, quiet_placed, quiet_more, each_placed}
 use Rattle.ppq_spill.proofs.Keeping.{slots_long}
+use Rattle.ppq_spill.proofs.Written.{grown_slot}
 use Rattle.ppq_spill.specs.Untold.{untold}
 use Rattle.ppq_spill.proofs.Telling.{tell_part, tell_moved}
 
@@ -94,14 +95,14 @@ module _ {S R : Type 0} (shown : S → Shown) where
   pub part_written :
       (record_of : List ℕ → R) (width block bytes : ℕ) (records : List R) (made made' : External S R) (berths berths' : List (DeviceBlock S R)) (b : DeviceBlock S R) (s s' : Stock)
       → SameSums (slots_shown shown berths ++ s.kept) (shown b.slot ∷ (slots_shown shown berths' ++ s'.kept)) → s'.slot_room + length berths ≡ s.slot_room + 1 + length berths' → SameRest s s'
-      → (shown b.slot).size ≡ bytes → All (HasSize shown bytes) berths' → made ≡ external made.level (run_of [] 0 []) [] made.stored
+      → IsSlot bytes (shown b.slot) → All (HasSlot shown bytes) berths' → made ≡ external made.level (run_of [] 0 []) [] made.stored
       → BlockStored record_of width shown b.slot records made made' → 0 < length records → length records ≤ block
       → WroteAll record_of width block shown bytes records (hand made berths s) (hand made' berths' s')
   part_written record_of width block bytes records made made' berths berths' b s s' moved room rest size sizes shape put some fits =
       let last = put.last in
       let o = hand made berths s in
       let n = hand made' berths' s' in
-      let P : DeviceBlock S R → Type 0 = HasSize shown bytes in
+      let P : DeviceBlock S R → Type 0 = HasSlot shown bytes in
       let is : made' ≡ external made.level made.loaded made.lifted (made.stored ++ last ∷ []) = put.run ∙ ap (λ (bs : List (DeviceBlock S R)). external made.level made.loaded bs (made.stored ++ last ∷ [])) (sym (ap (λ a. a.lifted) shape)) in
       let stored : made'.stored ≡ made.stored ++ last ∷ [] = ap (λ a. a.stored) is in
       let one : counts (last ∷ []) ≡ length records = omega (arith, sum_by-cons (λ (b : DeviceBlock S R). b.count) last [], put.count) in
@@ -125,7 +126,7 @@ module _ {S R : Type 0} (shown : S → Shown) where
               (Went-one 1 (shown b.slot) (shown last.slot) put.grew put.transfers);
           rest = rest;
           room = omega (arith, room, ap length stored, length-append made.stored (last ∷ []));
-          sizes = λ a. All-append P made'.stored berths' (subst (All P) (sym stored) (All-push P made.stored last (all_left P made.stored berths a) (put.grew.size ∙ size))) sizes;
+          sizes = λ a. All-append P made'.stored berths' (subst (All P) (sym stored) (All-push P made.stored last (all_left P made.stored berths a) (grown_slot bytes (shown b.slot) (shown last.slot) put.grew size))) sizes;
           written = All-cons (λ (b : DeviceBlock S R). 1 ≤ (shown b.slot).writes) last [] put.written (All-nil (λ (b : DeviceBlock S R). 1 ≤ (shown b.slot).writes));
         };
         quiet = quiet_placed others (shown b.slot ∷ []) (shown last.slot ∷ []) (hand_slots shown o) (hand_slots shown n) before now (quiet_more (shown b.slot ∷ []) [] [] (shown b.slot) (shown last.slot) refl put.well.quiet);
@@ -146,13 +147,13 @@ module _ {S R : Type 0} (shown : S → Shown) where
   pub part_failed :
       (block bytes : ℕ) (made made' : External S R) (berths berths' : List (DeviceBlock S R)) (b failed : DeviceBlock S R) (s s' f : Stock) (number : ℕ)
       → SameSums (slots_shown shown berths ++ s.kept) (shown b.slot ∷ (slots_shown shown berths' ++ s'.kept)) → s'.slot_room + length berths ≡ s.slot_room + 1 + length berths' → SameRest s s'
-      → length berths ≤ s.slot_room → All (HasSize shown bytes) berths'
+      → length berths ≤ s.slot_room → All (HasSlot shown bytes) berths'
       → BlockFailed shown b.slot made made' failed → GetsSlot s' (shown failed.slot) f → number ≡ (shown failed.slot).number
       → WroteSome shown block bytes [] (hand made berths s) (hand made' berths' f) (Device number)
   part_failed block bytes made made' berths berths' b failed s s' f number moved room rest back sizes put gets is =
       let o = hand made berths s in
       let n = hand made' berths' f in
-      let P : DeviceBlock S R → Type 0 = HasSize shown bytes in
+      let P : DeviceBlock S R → Type 0 = HasSlot shown bytes in
       let kept : f.kept ≡ s'.kept ++ shown failed.slot ∷ [] = ap (λ s. s.kept) gets in
       let less : f.slot_room ≡ s'.slot_room - 1 = ap (λ s. s.slot_room) gets in
       let stored : made'.stored ≡ made.stored = ap (λ a. a.stored) put.run in

@@ -17,8 +17,8 @@ use Rattle.ppq_fetch.specs.ppq_array.declared.berth.DeviceBlock.{DeviceBlock}
 use Rattle.ppq_fetch.specs.ppq_array.Run.{run_of}
 use Rattle.ppq_fetch.specs.ppq_array.External.{External, external, size_of, counts, records_in, block_items, blocks_items, IsPacked}
 use Rattle.ppq_fetch.specs.ppq_array.Supply.{Stock}
-use Rattle.ppq_fetch.specs.ppq_array.Owner.{HasBlock, HasSize}
-use Rattle.ppq_fetch.specs.ppq_array.Holdings.{external_slots, external_buffers, ArrayHasSize, RunHasBlock}
+use Rattle.ppq_fetch.specs.ppq_array.Owner.{HasBlock, HasSlot}
+use Rattle.ppq_fetch.specs.ppq_array.Holdings.{external_slots, external_buffers, HasSlots, RunHasBlock}
 use Rattle.ppq_fetch.specs.Fetching.{state, MayFetch, PartsKept, Fetched, source_items, blocks_in, count_in}
 use Rattle.ppq_fetch.specs.Taking.{NoneAfter}
 use Rattle.ppq_spill.specs.Making.{hand, hand_slots, WroteAll, Table, table, table_slots, total, loaded_count, BetweenBatches, IsRising, all_records, AllFull, AllFit}
@@ -104,7 +104,7 @@ module _ {S R : Type 0} (shown : S → Shown) where
             sources = record {
               idle = subst (λ k. All (HasBlock k) idle2) (sym block2) idle_blocks;
               internal = λ k d h. absurd (omega arith);
-              external = subst (λ k. All (ArrayHasSize shown (k * width)) inputs1) (block1 ∙ sym block2) s.external;
+              external = subst (λ k. All (HasSlots shown (k * width)) inputs1) (block1 ∙ sym block2) s.external;
               loaded = subst (λ k. All (λ (a : External S R). RunHasBlock k a.loaded) inputs1) (block1 ∙ sym block2) s.loaded;
               fitting = s.fitting;
               internal_fitting = λ k d h. absurd (omega arith);
@@ -128,7 +128,7 @@ module _ {S R : Type 0} (shown : S → Shown) where
           fit = subst (λ k. All (λ (a : External S R). AllFit k a.stored) inputs1) (sym block2) taken.0;
           enough = subst (λ k. size_of made2 + loaded_count inputs1 ≤ (length made2.stored + length berths2 + length stock2.kept) * k) (sym block2) enough;
           few = subst (λ k. total (table inputs1 idle2 made2 berths2 stock2) ≤ (2 ^ 32 - 2) * k) (sym block2) (omega (arith, same, ready.few));
-          sizes = subst (λ k. All (HasSize shown (k * width)) (made2.stored ++ berths2)) (sym block2) (put.wrote.sizes ready.sizes);
+          sizes = subst (λ k. All (HasSlot shown (k * width)) (made2.stored ++ berths2)) (sym block2) (put.wrote.sizes ready.sizes);
           room = room;
           buffers = omega (arith, buffers, ready.buffers);
         },

@@ -15,7 +15,7 @@ use Rattle.ppq_fetch.specs.ppq_array.declared.store_fault.StoreFault.TheVariants
 use Rattle.ppq_fetch.specs.ppq_array.External.{External, size_of, counts}
 use Rattle.ppq_fetch.specs.ppq_array.Kept.{HasFailed}
 use Rattle.ppq_fetch.specs.ppq_array.Supply.{Stock}
-use Rattle.ppq_fetch.specs.ppq_array.Owner.{HasBlock, HasSize}
+use Rattle.ppq_fetch.specs.ppq_array.Owner.{HasBlock, HasSlot}
 use Rattle.ppq_fetch.specs.Fetching.{state, WentOn, count_in}
 use Rattle.ppq_fetch.specs.ppq_lane.declared.lanes.Lanes.{Lanes}
 use Rattle.ppq_spill.specs.Writing.{SameBuffers}
@@ -73,7 +73,7 @@ module _ {S R : Type 0} (cmp : R → R → Ordering) (record_of : List ℕ → R
         shape = ready.shape;
         full = λ h. subst (λ k. AllFull k made.stored) same (full h);
         slots = subst (λ k. n ≤ (length o.hand.berths + length stock1.kept) * k) same slots;
-        sizes = subst (λ k. All (HasSize shown (k * width)) (made.stored ++ o.hand.berths)) same ready.sizes;
+        sizes = subst (λ k. All (HasSlot shown (k * width)) (made.stored ++ o.hand.berths)) same ready.sizes;
         takes_back = omega (arith, ready.room, got.parts.kept.slot_room);
         few = subst (λ k. size_of made + n ≤ (2 ^ 32 - 2) * k) same few;
       }

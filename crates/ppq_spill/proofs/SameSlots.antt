@@ -1,12 +1,12 @@
 -- The same slots after calls of them.
-use Rattle.std.proofs.Common.{◌≡◌, ℕ, ◌+◌, ◌≤◌, ◌==◌, Bool, true, false, cond, List, ◌∷◌, ◌++◌, length, sum_by, refl, sym, ap, ◌∙◌, arith, length-append}
+use Rattle.std.proofs.Common.{◌≡◌, ℕ, ◌+◌, ◌≤◌, ◌==◌, Bool, true, false, cond, List, ◌∷◌, ◌++◌, length, sum_by, refl, sym, ap, ap₂, ◌∙◌, arith, length-append}
 use Rattle.std.proofs.lemmas.List.Sums.{sum_by-cons, sum_by-append}
 use Rattle.ppq_fetch.specs.ppq_outside.Shown.{Shown}
-use Rattle.ppq_fetch.specs.ppq_array.Kept.{SameSlots, weight_at}
+use Rattle.ppq_fetch.specs.ppq_array.Kept.{SameSlots, weight_at, overread}
 use Rattle.ppq_spill.specs.Writing.{Grew}
 
 pub SameSlots-refl : (slots : List Shown) → SameSlots slots slots
-SameSlots-refl slots = record { length = refl; each_once = λ n. refl; faults = λ n. omega arith; writes = λ n. omega arith; reads = λ n. omega arith }
+SameSlots-refl slots = record { length = refl; each_once = λ n. refl; faults = λ n. omega arith; writes = λ n. omega arith; reads = λ n. omega arith; sizes = λ n. refl; overreads = omega arith }
 
 pub SameSlots-trans : (a b c : List Shown) → SameSlots a b → SameSlots b c → SameSlots a c
 SameSlots-trans a b c h k =
@@ -16,6 +16,8 @@ SameSlots-trans a b c h k =
       faults = λ n. omega (arith, h.faults n, k.faults n);
       writes = λ n. omega (arith, h.writes n, k.writes n);
       reads = λ n. omega (arith, h.reads n, k.reads n);
+      sizes = λ n. k.sizes n ∙ h.sizes n;
+      overreads = omega (arith, h.overreads, k.overreads);
     }
 
 cond_le : (b : Bool) (x y : ℕ) → x ≤ y → cond b x 0 ≤ cond b y 0
@@ -41,7 +43,12 @@ SameSlots-grown xs ys s t g =
           omega (arith, sums_in w xs ys s, sums_in w xs ys t, same);
       faults = λ n. let w = weight_at (λ s. s.faults) n in omega (arith, sums_in w xs ys s, sums_in w xs ys t, weight_grows (λ s. s.faults) n s t g.number g.faults);
       writes = λ n. let w = weight_at (λ s. s.writes) n in omega (arith, sums_in w xs ys s, sums_in w xs ys t, weight_grows (λ s. s.writes) n s t g.number g.writes);
-      reads = λ n. let w = weight_at (λ s. s.reads) n in omega (arith, sums_in w xs ys s, sums_in w xs ys t, weight_grows (λ s. s.reads) n s t g.number g.reads);
+      reads = λ n. let w = weight_at (λ s. s.reads) n in omega (arith, sums_in w xs ys s, sums_in w xs ys t, weight_grows (λ s. s.reads) n s t g.number (omega (arith, g.reads)));
+      sizes = λ n.
+          let w = weight_at (λ s. s.size) n in
+          let same : w t ≡ w s = ap₂ (λ k z. cond (k == n) z 0) g.number g.size in
+          omega (arith, sums_in w xs ys s, sums_in w xs ys t, same);
+      overreads = omega (arith, sums_in overread xs ys s, sums_in overread xs ys t, g.reads, g.writes);
     }
 
 -- slots that add up to the same
@@ -53,4 +60,6 @@ SameSlots-sums a b h e =
       faults = λ n. omega (arith, h (weight_at (λ s. s.faults) n));
       writes = λ n. omega (arith, h (weight_at (λ s. s.writes) n));
       reads = λ n. omega (arith, h (weight_at (λ s. s.reads) n));
+      sizes = λ n. sym (h (weight_at (λ s. s.size) n));
+      overreads = omega (arith, h overread);
     }

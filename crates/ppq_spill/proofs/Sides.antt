@@ -15,8 +15,8 @@ use Rattle.ppq_fetch.specs.ppq_array.declared.store_fault.StoreFault.TheVariants
 use Rattle.ppq_fetch.specs.ppq_array.Run.{items_of, buffers_of}
 use Rattle.ppq_fetch.specs.ppq_array.External.{External, size_of, IsPacked}
 use Rattle.ppq_fetch.specs.ppq_array.Supply.{Stock}
-use Rattle.ppq_fetch.specs.ppq_array.Owner.{slots_shown, HasBlock, HasSize, new_owner}
-use Rattle.ppq_fetch.specs.ppq_array.Holdings.{external_slots, external_buffers, RunHasBlock, ArrayHasSize}
+use Rattle.ppq_fetch.specs.ppq_array.Owner.{slots_shown, HasBlock, HasSlot, new_owner}
+use Rattle.ppq_fetch.specs.ppq_array.Holdings.{external_slots, external_buffers, RunHasBlock, HasSlots}
 use Rattle.ppq_fetch.proofs.ppq_array.Noted.{all_left, all_right}
 use Rattle.ppq_fetch.specs.Fetching.{IsFitting, fronts_in, one_if_some}
 use Rattle.ppq_spill.specs.Leveling.{HasLevel, MayLevel, AreOneSize, ArraysAscend}
@@ -131,7 +131,7 @@ module _ {S R : Type 0} (shown : S → Shown) (width workers level : ℕ) (at_mo
             some = may.size.some;
             small = may.size.small;
             idle = subst (All (HasBlock stock.block)) (sym lent_idle) blocks_lent;
-            external = all_low (ArrayHasSize shown (stock.block * width)) may.size.external;
+            external = all_low (HasSlots shown (stock.block * width)) may.size.external;
             loaded = all_low (λ (a : External S R). RunHasBlock stock.block a.loaded) may.size.loaded;
             takes_back = omega (arith, slots_counted shown low, blocks, may.few_blocks);
           };
@@ -226,10 +226,10 @@ module _ {S R : Type 0} (shown : S → Shown) (width workers level : ℕ) (at_mo
       pub rest_block : b.hand.stock.block ≡ a.hand.stock.block
       rest_block = other.rest.block ∙ sym mine.rest.block
 
-      pub rest_sizes : All (HasSize shown (a.hand.stock.block * width)) (a.hand.berths ++ b.hand.berths)
+      pub rest_sizes : All (HasSlot shown (a.hand.stock.block * width)) (a.hand.berths ++ b.hand.berths)
       rest_sizes =
-          let P = HasSize {S = S} {R = R} shown (stock.block * width) in
-          subst (λ k. All (HasSize shown (k * width)) (a.hand.berths ++ b.hand.berths)) (sym mine.rest.block) (All-append P a.hand.berths b.hand.berths (all_right P a.hand.made.stored a.hand.berths mine.sizes) (all_right P b.hand.made.stored b.hand.berths other.sizes))
+          let P = HasSlot {S = S} {R = R} shown (stock.block * width) in
+          subst (λ k. All (HasSlot shown (k * width)) (a.hand.berths ++ b.hand.berths)) (sym mine.rest.block) (All-append P a.hand.berths b.hand.berths (all_right P a.hand.made.stored a.hand.berths mine.sizes) (all_right P b.hand.made.stored b.hand.berths other.sizes))
 
       pub idle_few : length a.idle + length b.idle < 2 ^ 32 - 1
       idle_few =

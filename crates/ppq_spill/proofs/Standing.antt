@@ -15,8 +15,8 @@ use Rattle.ppq_fetch.specs.ppq_lane.declared.job.Job.{Job}
 use Rattle.ppq_fetch.specs.ppq_array.declared.berth.DeviceBlock.{DeviceBlock}
 use Rattle.ppq_fetch.specs.ppq_array.Run.{run_of}
 use Rattle.ppq_fetch.specs.ppq_array.External.{External, external, counts, block_items, blocks_items, IsPacked}
-use Rattle.ppq_fetch.specs.ppq_array.Owner.{slots_shown, HasSize, HasBlock}
-use Rattle.ppq_fetch.specs.ppq_array.Supply.{Stock}
+use Rattle.ppq_fetch.specs.ppq_array.Owner.{slots_shown, HasSlot, HasBlock}
+use Rattle.ppq_fetch.specs.ppq_array.Supply.{Stock, IsSlot}
 use Rattle.ppq_fetch.proofs.ppq_array.Noted.{all_left, all_right, take_whole}
 use Rattle.ppq_spill.specs.Went.{Went, WentWriting, AtLeast}
 use Rattle.ppq_fetch.specs.ppq_array.Kept.{SameSums, AreQuiet, all_faults}
@@ -154,10 +154,10 @@ module _ {S R : Type 0} (cmp : R → R → Ordering) (bytes_of : R → List ℕ)
   same_slots [] = refl
   same_slots (d ∷ ds) = ap (λ xs. shown d.slot.slot ∷ xs) (same_slots ds)
 
-  sized_as : (ds : List (Job (DeviceBlock S R) R)) → All (HasSize {S = S} {R = R} shown (block * width)) (map slot_of ds) → All (HasSize {S = S} {R = R} shown (block * width)) (map block_of ds)
+  sized_as : (ds : List (Job (DeviceBlock S R) R)) → All (HasSlot {S = S} {R = R} shown (block * width)) (map slot_of ds) → All (HasSlot {S = S} {R = R} shown (block * width)) (map block_of ds)
   sized_as [] sizes = sizes
   sized_as (d ∷ ds) sizes =
-      let P = HasSize {S = S} {R = R} shown (block * width) in
+      let P = HasSlot {S = S} {R = R} shown (block * width) in
       All-cons P (block_of d) (map block_of ds) (All-head P d.slot (map slot_of ds) sizes) (sized_as ds (All-tail P d.slot (map slot_of ds) sizes))
 
   -- no call of them failed
@@ -221,7 +221,7 @@ module _ {S R : Type 0} (cmp : R → R → Ordering) (bytes_of : R → List ℕ)
       → Staged width block shown records idle idle' berths berths' stock stock' jobs → map buf_of done ≡ map buf_of jobs → AllZip (Ran cmp bytes_of record_of width block shown) jobs done → All IsGood done
       → WroteAll record_of width block shown (block * width) records (hand made berths stock) (hand (appended made done) berths' stock')
   staged_written records idle idle' berths berths' stock stock' jobs done made shape staged same zip good =
-      let P = HasSize {S = S} {R = R} shown (block * width) in
+      let P = HasSlot {S = S} {R = R} shown (block * width) in
       let stand = subst (StandIn block records) (sym same) staged.stand in
       let xs = slots_shown shown made.stored in
       let b0 = slots_shown shown berths in
@@ -277,7 +277,7 @@ module _ {S R : Type 0} (cmp : R → R → Ordering) (bytes_of : R → List ℕ)
       → made ≡ external made.level (run_of [] 0 []) [] made.stored → Staged width block shown records idle idle' berths berths' stock stock' jobs → AllZip (Ran cmp bytes_of record_of width block shown) jobs (good ++ bad ∷ later) → All IsGood good
       → Tried shown (block * width) (length later + 1) (hand made berths stock) (hand (appended made good) (bad.slot ∷ (berths' ++ map slot_of later)) stock') (map block_of good)
   staged_failed records idle idle' berths berths' stock stock' jobs good bad later made shape staged zip is_good =
-      let P = HasSize {S = S} {R = R} shown (block * width) in
+      let P = HasSlot {S = S} {R = R} shown (block * width) in
       let done = good ++ bad ∷ later in
       let xs = slots_shown shown made.stored in
       let b1 = slots_shown shown berths' in
@@ -342,7 +342,7 @@ taken_on (suc at) n (x ∷ xs) = ap (λ k. take k (x ∷ xs)) (let e : suc at + 
 
 module _ {S R : Type 0} (width block : ℕ) (shown : S → Shown) where
   pub staged_none :
-      (idle : List (Block R)) (berths : List (DeviceBlock S R)) (stock : Stock) (jobs : List (Job (DeviceBlock S R) R)) → jobs ≡ [] → 1 ≤ block → All (HasBlock block) idle → All (HasSize shown (block * width)) berths
+      (idle : List (Block R)) (berths : List (DeviceBlock S R)) (stock : Stock) (jobs : List (Job (DeviceBlock S R) R)) → jobs ≡ [] → 1 ≤ block → All (HasBlock block) idle → All (HasSlot shown (block * width)) berths
       → Staged width block shown [] idle idle berths berths stock stock jobs
   staged_none idle berths stock jobs none some blocks sizes =
       subst (Staged width block shown [] idle idle berths berths stock stock) (sym none)
@@ -353,7 +353,7 @@ module _ {S R : Type 0} (width block : ℕ) (shown : S → Shown) where
         room = omega arith;
         left = omega arith;
         rest = record { block = refl; drawn = refl; buffers = refl };
-        sized = All-nil (HasSize shown (block * width));
+        sized = All-nil (HasSlot shown (block * width));
         sizes = sizes;
         idle_left = omega arith;
         blocks = blocks;
@@ -363,10 +363,10 @@ module _ {S R : Type 0} (width block : ℕ) (shown : S → Shown) where
       (records part all : List R) (idle0 idle idle' : List (Block R)) (berths0 berths berths' : List (DeviceBlock S R)) (s0 s s' : Stock) (jobs : List (Job (DeviceBlock S R) R)) (j : Job (DeviceBlock S R) R)
       → Staged width block shown records idle0 idle berths0 berths s0 s jobs → All (λ (b : Block R). length b.items ≡ block) (map buf_of jobs) → j.buf ≡ holding block part → 0 < length part → length part ≤ block → all ≡ records ++ part → IsWrite j
       → SameSums (slots_shown shown berths ++ s.kept) (shown j.slot.slot ∷ (slots_shown shown berths' ++ s'.kept)) → s'.slot_room + length berths ≡ s.slot_room + 1 + length berths' → length berths' ≡ length berths - 1 → SameRest s s'
-      → (shown j.slot.slot).size ≡ block * width → All (HasSize shown (block * width)) berths' → length idle ≡ suc (length idle') → All (HasBlock block) idle' → {jobs' : List (Job (DeviceBlock S R) R)} → jobs' ≡ jobs ++ j ∷ []
+      → IsSlot (block * width) (shown j.slot.slot) → All (HasSlot shown (block * width)) berths' → length idle ≡ suc (length idle') → All (HasBlock block) idle' → {jobs' : List (Job (DeviceBlock S R) R)} → jobs' ≡ jobs ++ j ∷ []
       → Staged width block shown all idle0 idle' berths0 berths' s0 s' jobs'
   staged_more records part all idle0 idle idle' berths0 berths berths' s0 s s' jobs j is full held some fit all_is write moved room left rest size sizes idle_is blocks {jobs'} e =
-      let P = HasSize {S = S} {R = R} shown (block * width) in
+      let P = HasSlot {S = S} {R = R} shown (block * width) in
       let js = slots_shown shown (map slot_of jobs) in
       let b1 = slots_shown shown berths in
       let b2 = slots_shown shown berths' in

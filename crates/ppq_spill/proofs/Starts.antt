@@ -14,8 +14,8 @@ use Rattle.ppq_fetch.specs.ppq_array.declared.berth.DeviceBlock.{DeviceBlock}
 use Rattle.ppq_fetch.specs.ppq_array.Run.{Run, run_of, items_of, buffers_of}
 use Rattle.ppq_fetch.specs.ppq_array.External.{External, external, size_of, counts, IsPacked}
 use Rattle.ppq_fetch.specs.ppq_array.Supply.{Stock}
-use Rattle.ppq_fetch.specs.ppq_array.Owner.{HasBlock, HasSize}
-use Rattle.ppq_fetch.specs.ppq_array.Holdings.{external_slots, external_buffers, RunHasBlock, ArrayHasSize}
+use Rattle.ppq_fetch.specs.ppq_array.Owner.{HasBlock, HasSlot}
+use Rattle.ppq_fetch.specs.ppq_array.Holdings.{external_slots, external_buffers, RunHasBlock, HasSlots}
 use Rattle.ppq_fetch.proofs.ppq_array.Noted.{all_left, all_right}
 use Rattle.ppq_fetch.specs.Fetching.{IsFitting, blocks_in, fronts_in, one_if_some}
 use Rattle.ppq_spill.specs.Leveling.{HasLevel, EightOf, MayLevel, records_count}
@@ -159,7 +159,7 @@ module _ {S R : Type 0} (shown : S → Shown) (width workers level : ℕ) where
           sources = record {
             idle = subst (λ k. All (HasBlock k) lanes.idle) (sym block1) may.size.idle;
             internal = λ k d h. absurd (omega arith);
-            external = subst (λ k. All (ArrayHasSize shown (k * width)) inputs) (sym block1) (all (ArrayHasSize shown (b * width)) may.size.external);
+            external = subst (λ k. All (HasSlots shown (k * width)) inputs) (sym block1) (all (HasSlots shown (b * width)) may.size.external);
             loaded = subst (λ k. All (λ (a : External S R). RunHasBlock k a.loaded) inputs) (sym block1) loaded;
             fitting = fitting;
             internal_fitting = λ k d h. absurd (omega arith);
@@ -184,7 +184,7 @@ module _ {S R : Type 0} (shown : S → Shown) (width workers level : ℕ) where
         enough = subst (λ k. 0 + loaded_count inputs ≤ (0 + length berths + length stock1.kept) * k) (sym block1)
             (let e : (0 + length berths + length stock1.kept) * b ≡ (length berths + length stock1.kept) * b = ap (λ k. k * b) (let z : 0 + length berths + length stock1.kept ≡ length berths + length stock1.kept = omega arith in z) in omega (arith, enough, e));
         few = subst (λ k. 0 + (0 + records_count inputs) ≤ (2 ^ 32 - 2) * k) (sym block1) (omega (arith, few));
-        sizes = subst (λ k. All (HasSize shown (k * width)) berths) (sym block1) drew.sizes;
+        sizes = subst (λ k. All (HasSlot shown (k * width)) berths) (sym block1) drew.sizes;
         room = omega (arith, slots, room1);
         buffers = omega (arith, may.buffers);
       }

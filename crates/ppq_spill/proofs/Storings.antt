@@ -6,7 +6,7 @@ use Rattle.ppq_fetch.specs.ppq_array.declared.berth.DeviceBlock.{DeviceBlock}
 use Rattle.ppq_fetch.specs.ppq_array.External.{External, external}
 use Rattle.ppq_fetch.specs.ppq_array.Supply.{Stock, GetsSlot}
 use Rattle.ppq_fetch.specs.ppq_array.Owner.{slots_shown, HasBlock}
-use Rattle.ppq_fetch.specs.ppq_array.Holdings.{RunHasBlock, ArrayHasSize}
+use Rattle.ppq_fetch.specs.ppq_array.Holdings.{RunHasBlock, HasSlots}
 use Rattle.ppq_spill.specs.declared.body.PassBody.{PassBody}
 use Rattle.ppq_spill.specs.Storing.{HasOneSize, RunStopped}
 use Rattle.ppq_fetch.specs.ppq_array.Kept.{Held, Kept, SameSums, weight_at}
@@ -118,7 +118,7 @@ module _ {S R : Type 0} (shown : S → Shown) (width : ℕ) (o d : Stock) (e j e
 module _ {S R : Type 0} (shown : S → Shown) (width : ℕ) where
   -- all is of one block size again
   pub sizes_after :
-      (old new : PassBody S R) (o n : Stock) → HasOneSize shown width old o → n.block ≡ o.block → All (HasBlock o.block) new.lanes.idle → All (RunHasBlock o.block) new.runs.internal.items → All (ArrayHasSize shown (o.block * width)) new.runs.external.items
+      (old new : PassBody S R) (o n : Stock) → HasOneSize shown width old o → n.block ≡ o.block → All (HasBlock o.block) new.lanes.idle → All (RunHasBlock o.block) new.runs.internal.items → All (HasSlots shown (o.block * width)) new.runs.external.items
       → HasOneSize shown width new n
   sizes_after old new o n is same idle internal external =
       record {
@@ -126,7 +126,7 @@ module _ {S R : Type 0} (shown : S → Shown) (width : ℕ) where
         small = subst (λ b. b ≤ 65536) (sym same) is.small;
         idle = subst (λ b. All (HasBlock b) new.lanes.idle) (sym same) idle;
         internal = subst (λ b. All (RunHasBlock b) new.runs.internal.items) (sym same) internal;
-        external = subst (λ b. All (ArrayHasSize shown (b * width)) new.runs.external.items) (sym same) external;
+        external = subst (λ b. All (HasSlots shown (b * width)) new.runs.external.items) (sym same) external;
       }
 
 -- a slot was drawn and written, and came back, since that write failed; those behind it came back after it

@@ -17,8 +17,8 @@ use Rattle.ppq_fetch.specs.ppq_array.declared.berth.DeviceBlock.{DeviceBlock}
 use Rattle.ppq_fetch.specs.ppq_array.declared.store_fault.StoreFault.{StoreFault}
 use Rattle.ppq_fetch.specs.ppq_array.declared.store_fault.StoreFault.TheVariants.{Device}
 use Rattle.ppq_fetch.specs.ppq_array.External.{External, size_of, counts}
-use Rattle.ppq_fetch.specs.ppq_array.Supply.{Stock, GetsSlot}
-use Rattle.ppq_fetch.specs.ppq_array.Owner.{HasBlock, HasSize}
+use Rattle.ppq_fetch.specs.ppq_array.Supply.{Stock, GetsSlot, IsSlot}
+use Rattle.ppq_fetch.specs.ppq_array.Owner.{HasBlock, HasSlot}
 use Rattle.ppq_fetch.specs.ppq_array.Kept.{HasFailed}
 use Rattle.ppq_fetch.specs.ppq_array.Holdings.{external_buffers}
 use Rattle.ppq_fetch.specs.Fetching.{State, state, AreSources, PartsKept, WentOn, count_in}
@@ -111,7 +111,7 @@ module _ {S R : Type 0} (cmp : R → R → Ordering) (bytes_of : R → List ℕ)
             no_job = none;
             job_room = turn_room room fits;
             slots = may.slots;
-            sizes = all_right (HasSize shown (stock.block * width)) made.stored berths may.sizes;
+            sizes = all_right (HasSlot shown (stock.block * width)) made.stored berths may.sizes;
             few = omega (arith, may.few);
           }
 
@@ -259,8 +259,10 @@ module _ {S R : Type 0} (cmp : R → R → Ordering) (bytes_of : R → List ℕ)
               pub stopped_room : 0 < stock2.slot_room
               stopped_room = omega (arith, stopped.room, at.may.ready.room)
 
-              pub stopped_size : (shown bad.slot.slot).size ≡ stock2.block * width
-              stopped_size = let P : DeviceBlock S R → Type 0 = HasSize shown (at.stock0.block * width) in All-head P bad.slot (berths' ++ map slot_of later) (all_right P (made.stored ++ map block_of good) left stopped.sizes) ∙ ap (λ k. k * width) (sym (block2 ∙ turn_block))
+              pub stopped_slot : IsSlot (stock2.block * width) (shown bad.slot.slot)
+              stopped_slot =
+                  let P : DeviceBlock S R → Type 0 = HasSlot shown (at.stock0.block * width) in
+                  subst (λ k. IsSlot (k * width) (shown bad.slot.slot)) (sym (block2 ∙ turn_block)) (All-head P bad.slot (berths' ++ map slot_of later) (all_right P (made.stored ++ map block_of good) left stopped.sizes))
 
               pub turn_not_written : (stock3 : Stock) (number : ℕ) → GetsSlot stock2 (shown bad.slot.slot) stock3 → number ≡ (shown bad.slot.slot).number → MergeFailed shown width o (table inputs2 (idle2 ++ map buf_of done) (appended made good) (berths' ++ map slot_of later) stock3) (Device number)
               turn_not_written stock3 number gets number_is =
@@ -276,10 +278,10 @@ module _ {S R : Type 0} (cmp : R → R → Ordering) (bytes_of : R → List ℕ)
                   MergeFailed-trans cmp record_of width workers shown o before n (Device number) at.merged failed
 
             -- the same, from what the end of the group tells
-            pub turn_free : (berths3 : List (DeviceBlock S R)) (made2 : External S R) (failed : DeviceBlock S R) → GroupStopped done berths' berths3 made made2 failed → 0 < count → (0 < stock2.slot_room) × ((shown failed.slot).size ≡ stock2.block * width)
+            pub turn_free : (berths3 : List (DeviceBlock S R)) (made2 : External S R) (failed : DeviceBlock S R) → GroupStopped done berths' berths3 made made2 failed → 0 < count → (0 < stock2.slot_room) × IsSlot (stock2.block * width) (shown failed.slot)
             turn_free berths3 made2 failed (good, bad, later, all, slots_is, is) some = (
               stopped_room good bad later all is.all_good is.is_bad some,
-              ap (λ (b : DeviceBlock S R). (shown b.slot).size) is.failed_is ∙ stopped_size good bad later all is.all_good is.is_bad some,
+              subst (λ (b : DeviceBlock S R). IsSlot (stock2.block * width) (shown b.slot)) (sym is.failed_is) (stopped_slot good bad later all is.all_good is.is_bad some),
             )
 
             pub turn_stopped :

@@ -17,7 +17,7 @@ use Rattle.ppq_fetch.specs.ppq_outside.Shown.{Shown, Tells, AllTell}
 use Rattle.ppq_fetch.specs.ppq_array.declared.berth.DeviceBlock.{DeviceBlock}
 use Rattle.ppq_fetch.specs.ppq_array.Run.{Run, run_of, buffers_of}
 use Rattle.ppq_fetch.specs.ppq_array.External.{External, external, size_of, counts, records_in, blocks_items, block_items, IsPacked}
-use Rattle.ppq_fetch.specs.ppq_array.Owner.{slots_shown, HasSize}
+use Rattle.ppq_fetch.specs.ppq_array.Owner.{slots_shown, HasSlot}
 use Rattle.ppq_fetch.specs.ppq_array.Kept.{AreQuiet, MoreWrites}
 use Rattle.ppq_fetch.proofs.ppq_array.Noted.{all_left, all_right, take_whole}
 use Rattle.ppq_fetch.specs.Taking.{NoneAfter}
@@ -25,6 +25,7 @@ use Rattle.ppq_spill.specs.Writing.{Grew, WroteWell, WroteFront, MergedOut, Bloc
 use Rattle.ppq_spill.specs.Went.{WentWriting, AtLeast}
 use Rattle.ppq_spill.proofs.Going.{WentWriting-refl, WentWriting-more, WentWriting-weaker, quiet_more, each-none, each_more}
 use Rattle.ppq_spill.proofs.Keeping.{slots_long}
+use Rattle.ppq_spill.proofs.Written.{grown_slot}
 
 zip_push : {X Y : Type 0} (P : X → Y → Type 0) (xs : List X) (ys : List Y) (x : X) (y : Y) → AllZip P xs ys → P x y → AllZip P (xs ++ x ∷ []) (ys ++ y ∷ [])
 zip_push P [] [] x y zip one = (one, tt)
@@ -52,12 +53,12 @@ module _ {S R : Type 0} (cmp : R → R → Ordering) (record_of : List ℕ → R
 
   pub Writing-none :
       (slots : List (DeviceBlock S R)) (runs : List (Run R)) (rest : List R) (array : External S R) → array ≡ external 0 (run_of [] 0 []) [] []
-      → All (HasSize shown (block * width)) slots → length (left_in runs rest) ≤ length slots * block → length slots * block < length (left_in runs rest) + block
+      → All (HasSlot shown (block * width)) slots → length (left_in runs rest) ≤ length slots * block → length slots * block < length (left_in runs rest) + block
       → Writing cmp record_of width block shown slots runs rest slots runs rest array
   Writing-none slots runs rest array e sizes room least =
       let none : array.stored ≡ [] = ap (λ a. a.stored) e in
       record {
-        sizes = subst (λ bs. All (HasSize shown (block * width)) (bs ++ slots)) (sym none) sizes;
+        sizes = subst (λ bs. All (HasSlot shown (block * width)) (bs ++ slots)) (sym none) sizes;
         shape = e ∙ ap (λ bs. external 0 (run_of [] 0 []) [] bs) (sym none);
         size = ap (λ a. size_of a + length (left_in runs rest)) e ∙ (let z : 0 + 0 + length (left_in runs rest) ≡ length (left_in runs rest) = omega arith in z);
         room = room;
@@ -169,12 +170,12 @@ module _ {S R : Type 0} (cmp : R → R → Ordering) (record_of : List ℕ → R
           (each_more (slots_shown shown slots0) (slots_shown shown stored) (slots_shown shown slots) (shown b.slot) (shown last.slot) (length stored) before one))
 
       sizes_more :
-          (stored : List (DeviceBlock S R)) (b last : DeviceBlock S R) (slots : List (DeviceBlock S R)) → Grew (shown b.slot) (shown last.slot) → All (HasSize shown (block * width)) (stored ++ b ∷ slots) → {stored' : List (DeviceBlock S R)} → stored' ≡ stored ++ last ∷ []
-          → All (HasSize shown (block * width)) (stored' ++ slots)
+          (stored : List (DeviceBlock S R)) (b last : DeviceBlock S R) (slots : List (DeviceBlock S R)) → Grew (shown b.slot) (shown last.slot) → All (HasSlot shown (block * width)) (stored ++ b ∷ slots) → {stored' : List (DeviceBlock S R)} → stored' ≡ stored ++ last ∷ []
+          → All (HasSlot shown (block * width)) (stored' ++ slots)
       sizes_more stored b last slots grew sizes {stored'} e =
-          let P = HasSize {S = S} {R = R} shown (block * width) in
+          let P = HasSlot {S = S} {R = R} shown (block * width) in
           let behind = all_right P stored (b ∷ slots) sizes in
-          All-append P stored' slots (subst (All P) (sym e) (All-push P stored last (all_left P stored (b ∷ slots) sizes) (grew.size ∙ All-head P b slots behind))) (All-tail P b slots behind)
+          All-append P stored' slots (subst (All P) (sym e) (All-push P stored last (all_left P stored (b ∷ slots) sizes) (grown_slot (block * width) (shown b.slot) (shown last.slot) grew (All-head P b slots behind)))) (All-tail P b slots behind)
 
 -- where nothing is left, nothing is left of the list
 pub rest_none : {X : Type 0} (xs ys : List X) (block : ℕ) → length (xs ++ ys) ≤ 0 * block → ys ≡ []
@@ -194,9 +195,9 @@ module _ {S R : Type 0} (cmp : R → R → Ordering) (record_of : List ℕ → R
       let blocks : array.stored ≡ array'.stored = sym (ap (λ a. a.stored) put.run) in
       let xs = slots_shown shown array.stored in
       let ys = slots_shown shown slots in
-      let P = HasSize {S = S} {R = R} shown (block * width) in
+      let P = HasSlot {S = S} {R = R} shown (block * width) in
       let behind = all_right P array.stored (b ∷ slots) is.sizes in
-      let sizes : All P (array.stored ++ failed ∷ slots) = All-append P array.stored (failed ∷ slots) (all_left P array.stored (b ∷ slots) is.sizes) (All-cons P failed slots (put.grew.size ∙ All-head P b slots behind) (All-tail P b slots behind)) in
+      let sizes : All P (array.stored ++ failed ∷ slots) = All-append P array.stored (failed ∷ slots) (all_left P array.stored (b ∷ slots) is.sizes) (All-cons P failed slots (grown_slot (block * width) (shown b.slot) (shown failed.slot) put.grew (All-head P b slots behind)) (All-tail P b slots behind)) in
       let before = slots_shown shown slots0 in
       let now = xs ++ shown failed.slot ∷ ys in
       let few : length array.stored ≤ length slots0 = omega (arith, is.went.went.same.length, length-append xs (shown b.slot ∷ ys), slots_long shown array.stored, slots_long shown slots0) in

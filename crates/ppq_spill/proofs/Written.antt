@@ -5,6 +5,7 @@ use Rattle.std.proofs.lemmas.Result.{IfOk-at_ok, IfErr-at_err}
 use Rattle.ppq_fetch.specs.ppq_block.Block.{Block}
 use Rattle.ppq_fetch.specs.ppq_block.Told.{records_told}
 use Rattle.ppq_fetch.specs.ppq_outside.Shown.{Shown, Tells}
+use Rattle.ppq_fetch.specs.ppq_array.Supply.{IsSlot}
 use Rattle.ppq_fetch.specs.ppq_outside.Told.{StillTells, Rose, next_count}
 use Rattle.ppq_fetch.specs.ppq_lane.Jobs.{IsWrittenFrom}
 use Rattle.ppq_fetch.specs.ppq_array.declared.berth.DeviceBlock.{DeviceBlock}
@@ -25,6 +26,14 @@ told_before : (told told' : Option (List ℕ)) → StillTells told told' → IsS
 told_before None told' h t = absurd (cc)
 told_before (Some had) told' h t = refl
 
+-- a slot of a supply is one still after a write was called
+pub grown_slot : (bytes : ℕ) (before now : Shown) → Grew before now → IsSlot bytes before → IsSlot bytes now
+grown_slot bytes before now grew is = record { size = grew.size ∙ is.size; spent = omega (arith, grew.reads, grew.writes, is.spent) }
+
+-- once its write answered Ok, it can be read once more
+pub unread_after : (before now : Shown) → now.writes ≡ next_count before.writes → now.reads ≡ before.reads → before.reads ≤ before.writes → next_count now.reads ≤ now.writes
+unread_after before now wrote still spent = omega (arith, wrote, still, spent)
+
 module _ {S R : Type 0} (bytes_of : R → List ℕ) (record_of : List ℕ → R) (width : ℕ) (shown : S → Shown) where
   pub grew_written : {T E : Type 0} (answer : Result T E) (slot slot' : Shown) (buf buf' : Block R) → IsWrittenFrom bytes_of record_of width answer slot slot' buf buf' → Grew slot slot'
   grew_written answer slot slot' buf buf' w =
@@ -33,7 +42,7 @@ module _ {S R : Type 0} (bytes_of : R → List ℕ) (record_of : List ℕ → R)
         size = w.wrote.size;
         faults = w.wrote.cause.later;
         writes = w.wrote.writes.later;
-        reads = omega (arith, w.wrote.reads);
+        reads = w.wrote.reads;
         tells = λ t. still slot.told slot'.told w.wrote.tells t;
         told = λ t. told_before slot.told slot'.told w.wrote.tells t;
       }

@@ -13,7 +13,7 @@ use Rattle.ppq_fetch.specs.ppq_array.Owner.{HasBlock}
 use Rattle.ppq_fetch.specs.ppq_array.Run.{run_of, buffers_of}
 use Rattle.ppq_fetch.specs.ppq_array.External.{External, size_of, records_in, IsPacked}
 use Rattle.ppq_fetch.specs.ppq_array.Kept.{Held, HasFailed, SameSums, AreQuiet, all_writes, all_reads}
-use Rattle.ppq_fetch.specs.ppq_array.Holdings.{external_slots, external_buffers, RunHasBlock, ArrayHasSize}
+use Rattle.ppq_fetch.specs.ppq_array.Holdings.{external_slots, external_buffers, RunHasBlock, HasSlots}
 use Rattle.ppq_fetch.specs.Fetching.{IsFitting, fronts_in, blocks_in}
 use Rattle.ppq_spill.specs.Body.{job_slots}
 
@@ -58,7 +58,7 @@ module _ {S R : Type 0} where
       pub some : 1 ≤ stock.block
       pub small : stock.block ≤ 65536
       pub idle : All (HasBlock stock.block) lanes.idle
-      pub external : All (ArrayHasSize shown (stock.block * width)) arrays
+      pub external : All (HasSlots shown (stock.block * width)) arrays
       pub loaded : All (λ (a : External S R). RunHasBlock stock.block a.loaded) arrays
       pub takes_back : length (external_slots shown arrays) ≤ stock.slot_room
 

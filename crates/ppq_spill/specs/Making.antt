@@ -9,11 +9,11 @@ use Rattle.ppq_fetch.specs.ppq_array.declared.berth.DeviceBlock.{DeviceBlock}
 use Rattle.ppq_fetch.specs.ppq_array.declared.store_fault.StoreFault.{StoreFault}
 use Rattle.ppq_fetch.specs.ppq_array.declared.store_fault.StoreFault.TheVariants.{NoFreeBlock, Device}
 use Rattle.ppq_fetch.specs.ppq_array.Supply.{Stock}
-use Rattle.ppq_fetch.specs.ppq_array.Owner.{slots_shown, HasSize, HasBlock}
+use Rattle.ppq_fetch.specs.ppq_array.Owner.{slots_shown, HasSlot, HasBlock}
 use Rattle.ppq_fetch.specs.ppq_array.Run.{run_of, items_of, buffers_of}
 use Rattle.ppq_fetch.specs.ppq_array.External.{External, external, size_of, counts, records_in, blocks_items, IsPacked}
 use Rattle.ppq_fetch.specs.ppq_array.Kept.{HasFailed, AreQuiet}
-use Rattle.ppq_fetch.specs.ppq_array.Holdings.{external_slots, external_buffers, RunHasBlock, ArrayHasSize}
+use Rattle.ppq_fetch.specs.ppq_array.Holdings.{external_slots, external_buffers, RunHasBlock, HasSlots}
 use Rattle.ppq_fetch.specs.Fetching.{state, source_items, MayFetch, RunsRise, blocks_in, count_in}
 use Rattle.ppq_fetch.specs.ppq_lane.declared.lanes.Lanes.{Lanes}
 use Rattle.ppq_spill.specs.declared.new_array.NewArray.{NewArray}
@@ -69,7 +69,7 @@ module _ {S R : Type 0} where
     pub went : Went (length blocks) 0 (hand_slots shown old) (hand_slots shown new)
     pub rest : SameRest old.stock new.stock
     pub room : length new.made.stored + length new.berths + old.stock.slot_room ≡ length old.made.stored + length old.berths + new.stock.slot_room
-    pub sizes : All (HasSize shown bytes) (old.made.stored ++ old.berths) → All (HasSize shown bytes) (new.made.stored ++ new.berths)
+    pub sizes : All (HasSlot shown bytes) (old.made.stored ++ old.berths) → All (HasSlot shown bytes) (new.made.stored ++ new.berths)
     pub written : All (λ (b : DeviceBlock S R). 1 ≤ (shown b.slot).writes) blocks
 
   -- the same, and slots at hand were called to be written so many times more, some of which failed
@@ -78,7 +78,7 @@ module _ {S R : Type 0} where
     pub went : Went (length blocks + later) 0 (hand_slots shown old) (hand_slots shown new)
     pub rest : SameRest old.stock new.stock
     pub room : length new.made.stored + length new.berths + old.stock.slot_room ≡ length old.made.stored + length old.berths + new.stock.slot_room
-    pub sizes : All (HasSize shown bytes) (old.made.stored ++ old.berths) → All (HasSize shown bytes) (new.made.stored ++ new.berths)
+    pub sizes : All (HasSlot shown bytes) (old.made.stored ++ old.berths) → All (HasSlot shown bytes) (new.made.stored ++ new.berths)
     pub written : All (λ (b : DeviceBlock S R). 1 ≤ (shown b.slot).writes) blocks
 
   -- all records were written, in blocks of which all but the last are full, and no write failed
@@ -109,7 +109,7 @@ module _ {S R : Type 0} where
     pub shape : h.made ≡ external h.made.level (run_of [] 0 []) [] h.made.stored
     pub full : 0 < n → AllFull h.stock.block h.made.stored
     pub slots : n ≤ (length h.berths + length h.stock.kept) * h.stock.block
-    pub sizes : All (HasSize shown (h.stock.block * width)) (h.made.stored ++ h.berths)
+    pub sizes : All (HasSlot shown (h.stock.block * width)) (h.made.stored ++ h.berths)
     pub takes_back : length h.made.stored + length h.berths ≤ h.stock.slot_room
     pub few : size_of h.made + n ≤ (2 ^ 32 - 2) * h.stock.block
 
@@ -123,7 +123,7 @@ module _ {S R : Type 0} where
     pub some : 0 < n
     pub fit : n ≤ h.stock.block
     pub slots : 0 < length h.berths + length h.stock.kept
-    pub sizes : All (HasSize shown (h.stock.block * width)) h.berths
+    pub sizes : All (HasSlot shown (h.stock.block * width)) h.berths
     pub takes_back : length h.berths ≤ h.stock.slot_room
     pub room : length h.made.stored < 2 ^ 32 - 1
     pub few : size_of h.made + n < 2 ^ 64
@@ -177,7 +177,7 @@ module _ {S R : Type 0} where
     pub fit : All (λ (a : External S R). AllFit t.hand.stock.block a.stored) t.inputs
     pub enough : size_of t.hand.made + loaded_count t.inputs ≤ (length t.hand.made.stored + length t.hand.berths + length t.hand.stock.kept) * t.hand.stock.block
     pub few : total t ≤ (2 ^ 32 - 2) * t.hand.stock.block
-    pub sizes : All (HasSize shown (t.hand.stock.block * width)) (t.hand.made.stored ++ t.hand.berths)
+    pub sizes : All (HasSlot shown (t.hand.stock.block * width)) (t.hand.made.stored ++ t.hand.berths)
     pub room : held_slots shown t ≤ t.hand.stock.slot_room
     pub buffers : 2 * workers + 8 ≤ length t.idle + external_buffers t.inputs
 
@@ -208,10 +208,10 @@ module _ {S R : Type 0} where
     pub rest : SameRest old.hand.stock new.hand.stock
     pub room : held_slots shown new + old.hand.stock.slot_room ≡ held_slots shown old + new.hand.stock.slot_room
     pub buffers : length new.idle + external_buffers new.inputs ≡ length old.idle + external_buffers old.inputs
-    pub sizes : All (HasSize shown (old.hand.stock.block * width)) (new.hand.made.stored ++ new.hand.berths)
+    pub sizes : All (HasSlot shown (old.hand.stock.block * width)) (new.hand.made.stored ++ new.hand.berths)
     pub written : All (λ (b : DeviceBlock S R). 1 ≤ (shown b.slot).writes) blocks
     pub same_idle : All (HasBlock old.hand.stock.block) new.idle
-    pub same_external : All (ArrayHasSize shown (old.hand.stock.block * width)) new.inputs
+    pub same_external : All (HasSlots shown (old.hand.stock.block * width)) new.inputs
     pub same_loaded : All (λ (a : External S R). RunHasBlock old.hand.stock.block a.loaded) new.inputs
 
   -- the records that are made and those that are left

@@ -6,7 +6,7 @@ use Rattle.ppq_fetch.specs.ppq_outside.Told.{Rose}
 use Rattle.ppq_fetch.specs.ppq_array.declared.berth.DeviceBlock.{DeviceBlock}
 use Rattle.ppq_fetch.specs.ppq_array.Run.{Run, items_of, buffers_of}
 use Rattle.ppq_fetch.specs.ppq_array.Supply.{Stock}
-use Rattle.ppq_fetch.specs.ppq_array.Owner.{slots_shown, HasBlock, HasSize}
+use Rattle.ppq_fetch.specs.ppq_array.Owner.{slots_shown, HasBlock, HasSlot}
 use Rattle.ppq_fetch.specs.ppq_array.Kept.{SameSums}
 use Rattle.ppq_fetch.specs.ppq_array.Holdings.{RunHasBlock}
 use Rattle.ppq_fetch.specs.Fetching.{IsFitting}
@@ -71,7 +71,7 @@ module _ {S R : Type 0} where
   pub record DrewSlots (shown : S → Shown) (width : ℕ) (old new : Stock) (berths : List (DeviceBlock S R)) : Type 0 where
     pub in_order : DrewInOrder old new (slots_shown shown berths)
     pub moved : SameSums (old.kept ++ new.drawn) (slots_shown shown berths ++ new.kept ++ old.drawn)
-    pub sizes : All (HasSize shown (old.block * width)) berths
+    pub sizes : All (HasSlot shown (old.block * width)) berths
     pub stock : new ≡ record old { kept = new.kept; drawn = new.drawn; slot_room = old.slot_room + length berths }
     pub sure : length old.kept ≤ length berths + length new.kept
     pub left : length new.kept ≡ length old.kept - length berths

@@ -6,7 +6,7 @@ use Rattle.ppq_fetch.specs.ppq_outside.Shown.{Shown}
 use Rattle.ppq_fetch.specs.ppq_lane.declared.job.Job.{Job}
 use Rattle.ppq_fetch.specs.ppq_array.declared.berth.DeviceBlock.{DeviceBlock}
 use Rattle.ppq_fetch.specs.ppq_array.declared.store_fault.StoreFault.{StoreFault}
-use Rattle.ppq_fetch.specs.ppq_array.Owner.{HasBlock, HasSize, slots_shown}
+use Rattle.ppq_fetch.specs.ppq_array.Owner.{HasBlock, HasSlot, slots_shown}
 use Rattle.ppq_fetch.specs.ppq_array.Kept.{SameSums}
 use Rattle.ppq_fetch.specs.ppq_array.Supply.{Stock}
 use Rattle.ppq_fetch.specs.Fetching.{State, count_in, MayFetch, AreSources, Fetched, PartsKept}
@@ -34,7 +34,7 @@ module _ {S R : Type 0} where
     pub no_job : jobs ≡ []
     pub job_room : n ≤ room * block
     pub slots : n ≤ (length berths + length stock.kept) * block
-    pub sizes : All (HasSize shown (block * width)) berths
+    pub sizes : All (HasSlot shown (block * width)) berths
     pub few : n ≤ (2 ^ 32 - 2) * block
 
   -- Records were put into idle buffers, and each buffer got a slot, of those in hand or of those that the supply kept
@@ -45,8 +45,8 @@ module _ {S R : Type 0} where
     pub room : stock'.slot_room + length berths ≡ stock.slot_room + length jobs + length berths'
     pub left : length berths' ≡ length berths - length jobs
     pub rest : SameRest stock stock'
-    pub sized : All (HasSize shown (block * width)) (map slot_of jobs)
-    pub sizes : All (HasSize shown (block * width)) berths'
+    pub sized : All (HasSlot shown (block * width)) (map slot_of jobs)
+    pub sizes : All (HasSlot shown (block * width)) berths'
     pub idle_left : length idle' + length jobs ≡ length idle
     pub blocks : All (HasBlock block) idle'
 

@@ -14,7 +14,7 @@ use Rattle.ppq_fetch.specs.ppq_array.External.{External, size_of, records_in, Is
 use Rattle.ppq_fetch.specs.ppq_array.declared.store_fault.StoreFault.{StoreFault}
 use Rattle.ppq_fetch.specs.ppq_array.declared.store_fault.StoreFault.TheVariants.{NoFreeBlock, Device}
 use Rattle.ppq_fetch.specs.ppq_array.Kept.{Kept, HasFailed, MoreWrites, SameSums, AreQuiet, all_writes}
-use Rattle.ppq_fetch.specs.ppq_array.Holdings.{internal_items, RunHasBlock, ArrayHasSize, CanTakeBack}
+use Rattle.ppq_fetch.specs.ppq_array.Holdings.{internal_items, RunHasBlock, HasSlots, CanTakeBack}
 use Rattle.ppq_fetch.specs.Fetching.{IsFitting}
 use Rattle.ppq_spill.specs.Body.{body_slots, held_by}
 use Rattle.ppq_spill.specs.Untold.{SameUntold}
@@ -57,7 +57,7 @@ module _ {S R : Type 0} where
     pub small : stock.block ≤ 65536
     pub idle : All (HasBlock stock.block) body.lanes.idle
     pub internal : All (RunHasBlock stock.block) body.runs.internal.items
-    pub external : All (ArrayHasSize shown (stock.block * width)) body.runs.external.items
+    pub external : All (HasSlots shown (stock.block * width)) body.runs.external.items
 
   -- a body can store a run of n records more
   pub record MayStore (shown : S → Shown) (width n : ℕ) (body : PassBody S R) (stock : Stock) : Type 0 where

@@ -10,21 +10,22 @@ use Rattle.ppq_fetch.specs.ppq_outside.Told.{Rose}
 use Rattle.ppq_fetch.specs.ppq_array.declared.berth.DeviceBlock.{DeviceBlock}
 use Rattle.ppq_fetch.specs.ppq_array.Run.{Run, run_of, items_of, buffers_of}
 use Rattle.ppq_fetch.specs.ppq_array.External.{External, external, size_of, records_in, block_items, IsPacked}
-use Rattle.ppq_fetch.specs.ppq_array.Owner.{slots_shown, HasBlock, HasSize}
+use Rattle.ppq_fetch.specs.ppq_array.Owner.{slots_shown, HasBlock, HasSlot}
 use Rattle.ppq_fetch.specs.ppq_array.Kept.{MoreWrites, AreQuiet}
+use Rattle.ppq_fetch.specs.ppq_array.Supply.{IsSlot}
 use Rattle.ppq_fetch.specs.ppq_array.Holdings.{internal_items}
 use Rattle.ppq_fetch.specs.Taking.{NoneAfter}
 use Rattle.ppq_spill.specs.declared.body.PassBody.{PassBody}
 use Rattle.ppq_spill.specs.declared.new_array.NewArray.{NewArray}
 use Rattle.ppq_spill.specs.Went.{WentWriting, AtLeast}
 
--- a slot after a call: the same slot, and no count of it fell
+-- a slot after a write was called: the same slot, and no count of it fell
 pub record Grew (before now : Shown) : Type 0 where
   pub number : now.number ≡ before.number
   pub size : now.size ≡ before.size
   pub faults : before.faults ≤ now.faults
   pub writes : before.writes ≤ now.writes
-  pub reads : before.reads ≤ now.reads
+  pub reads : now.reads ≡ before.reads
   pub tells : Tells before → Tells now
   pub told : Tells now → Tells before
 
@@ -103,7 +104,7 @@ module _ {S R : Type 0} where
     pub some : 0 < length buf.items
     pub settled : IsSettled buf
     pub within : length buf.items ≤ buf.block
-    pub size : buf.block * width ≡ (shown slot).size
+    pub fits : IsSlot (buf.block * width) (shown slot)
     pub room : length array.stored < 2 ^ 32 - 1
     pub few : size_of array + length buf.items < 2 ^ 64
 
@@ -114,7 +115,7 @@ module _ {S R : Type 0} where
 
   -- From slots, runs and a list at the beginning to what was written of them so far, and what is left
   pub record Writing (cmp : R → R → Ordering) (record_of : List ℕ → R) (width block : ℕ) (shown : S → Shown) (slots0 : List (DeviceBlock S R)) (runs0 : List (Run R)) (rest0 : List R) (slots : List (DeviceBlock S R)) (runs : List (Run R)) (rest : List R) (array : External S R) : Type 0 where
-    pub sizes : All (HasSize shown (block * width)) (array.stored ++ slots)
+    pub sizes : All (HasSlot shown (block * width)) (array.stored ++ slots)
     pub shape : array ≡ external 0 (run_of [] 0 []) [] array.stored
     pub size : size_of array + length (left_in runs rest) ≡ length (left_in runs0 rest0)
     pub room : length (left_in runs rest) ≤ length slots * block
@@ -134,7 +135,7 @@ module _ {S R : Type 0} where
   -- A write failed: that slot, those that hold blocks now and those that are left are the slots from before, and it is the first of which a
   -- call failed. Each was written once at most, those that are left too
   pub record WriteFailed (shown : S → Shown) (bytes : ℕ) (slots0 : List (DeviceBlock S R)) (runs0 : List (Run R)) (slots : List (DeviceBlock S R)) (runs : List (Run R)) (array : External S R) (failed : DeviceBlock S R) : Type 0 where
-    pub sizes : All (HasSize shown bytes) (array.stored ++ failed ∷ slots)
+    pub sizes : All (HasSlot shown bytes) (array.stored ++ failed ∷ slots)
     pub shape : array ≡ external 0 (run_of [] 0 []) [] array.stored
     pub went : WentWriting (length slots0) (slots_shown shown slots0) (slots_shown shown array.stored ++ (shown failed.slot ∷ slots_shown shown slots))
     pub buffers : map buffers_of runs ≡ map buffers_of runs0
@@ -151,7 +152,7 @@ module _ {S R : Type 0} where
     pub empty : making.made ≡ external 0 (run_of [] 0 []) [] []
     pub few : length rest + length (internal_items body.runs.internal.items) < 2 ^ 32 - 1
     pub few_slots : length making.berths < 2 ^ 32 - 1
-    pub sizes : All (HasSize shown (block * width)) making.berths
+    pub sizes : All (HasSlot shown (block * width)) making.berths
     pub room : length (left_in body.runs.internal.items rest) ≤ length making.berths * block
     pub least : length making.berths * block < length (left_in body.runs.internal.items rest) + block
 

@@ -41,9 +41,8 @@ pub(crate) const TAKEN: usize = FAN as usize;
 /// changed but the order of the arrays and the supply's counts and slots: slots that were drawn are kept
 /// by the supply.
 ///
-/// `Device` only if a read or write of the slot with that number failed; where more than one write failed,
-/// it names the first of them in the order of the new array. Records may be lost then, but no slot and no
-/// buffer; what was written of the new array up to there stands after the others.
+/// `Device` only if a read or write of the slot with that number failed. Records may be lost then, but no
+/// slot and no buffer; what was written of the new array up to there stands after the others.
 pub fn merge_level<
     H: Host,
     S: Slot + Send + Sync,

@@ -1,6 +1,7 @@
 //! Writing merged records as blocks of a new array.
 ghost use Rattle.std.specs.Prelude.{◌≡◌, ◌+◌, ◌-◌, ◌*◌, ◌<◌, ◌++◌, ◌∷◌, [], length, All};
-ghost use Rattle.ppq_fetch.specs.ppq_array.Owner.{HasSize, slots_shown};
+ghost use Rattle.ppq_fetch.specs.ppq_array.Supply.{IsSlot};
+ghost use Rattle.ppq_fetch.specs.ppq_array.Owner.{HasSlot, slots_shown};
 ghost use Rattle.ppq_fetch.specs.ppq_array.Kept.{SameSums};
 ghost use Rattle.ppq_spill.specs.Writing.{SameBuffers};
 ghost use Rattle.ppq_spill.specs.Making.{hand_of, MayWrite, MayWritePart, BatchEnds, SameRest};
@@ -74,13 +75,13 @@ pub(crate) fn next_slot<S: Slot, R: Record, P: Supply<S, R>>(
     berths: &mut BerthList<S, R>,
 ) -> Berth<S, R>
     requires some { 0 < length berths.old + length (P.stock supply.old).kept }
-    requires sizes { All (HasSize S.shown ((P.stock supply.old).block * R.WIDTH)) berths.old }
+    requires sizes { All (HasSlot S.shown ((P.stock supply.old).block * R.WIDTH)) berths.old }
     ensures moved { SameSums (slots_shown S.shown berths.old ++ (P.stock supply.old).kept) (S.shown result.slot ∷ (slots_shown S.shown berths.new ++ (P.stock supply.new).kept)) }
     ensures room { (P.stock supply.new).slot_room + length berths.old ≡ (P.stock supply.old).slot_room + 1 + length berths.new }
     ensures left { length berths.new ≡ length berths.old - 1 }
     ensures rest { SameRest (P.stock supply.old) (P.stock supply.new) }
-    ensures size { (S.shown result.slot).size ≡ (P.stock supply.old).block * R.WIDTH }
-    ensures sizes { All (HasSize S.shown ((P.stock supply.old).block * R.WIDTH)) berths.new }
+    ensures slot { IsSlot ((P.stock supply.old).block * R.WIDTH) (S.shown result.slot) }
+    ensures sizes { All (HasSlot S.shown ((P.stock supply.old).block * R.WIDTH)) berths.new }
     ensures home { P.home supply.new ≡ P.home supply.old }
 {
     match berths.pop_front() {

@@ -1,6 +1,6 @@
 //! Merging 16 arrays of a level into two of the next, 8 into one beside the other 8 into one.
 ghost use Rattle.std.specs.Prelude.{◌≡◌, ◌+◌, ◌-◌, ◌*◌, ◌^◌, ◌<◌, ◌≤◌, ◌++◌, [], length, take, drop, All, vec_capacity};
-ghost use Rattle.ppq_fetch.specs.ppq_array.Owner.{HasSize, owner_home, slots_shown};
+ghost use Rattle.ppq_fetch.specs.ppq_array.Owner.{HasSlot, owner_home, slots_shown};
 ghost use Rattle.ppq_spill.specs.Leveling.{count_level, MayLevel, LanesStay, ArraysAscend};
 ghost use Rattle.ppq_spill.specs.Making.{table_of, MayMerge, MergeEnds, SameTools};
 ghost use Rattle.ppq_spill.specs.Pairing.{MayPair, PairEnds, last_part, part_before, all_but_sixteen, ended, placed_pair, with_rest};
@@ -342,7 +342,7 @@ fn end_pair<S: Slot, R: Record, P: Supply<S, R>>(
     requires room { 1 + length arrays.old.items < vec_capacity arrays.old }
     requires slots { length first.berths + length aside.kept + length second.berths ≤ (P.stock supply.old).slot_room }
     requires block { aside.block ≡ (P.stock supply.old).block }
-    requires sizes { All (HasSize S.shown ((P.stock supply.old).block * R.WIDTH)) (first.berths ++ second.berths) }
+    requires sizes { All (HasSlot S.shown ((P.stock supply.old).block * R.WIDTH)) (first.berths ++ second.berths) }
     ensures stock { P.stock supply.new ≡ with_rest (P.stock supply.old) (slots_shown S.shown first.berths) aside.kept (slots_shown S.shown second.berths) }
     ensures ended { result ≡ ended one two }
     ensures arrays { arrays.new.items ≡ placed_pair result arrays.old.items first.made second.made }

@@ -1,5 +1,5 @@
 //! What several test crates use: records, generated numbers, blocks and queues in memory, the bound on what a queue
-//! writes, a slot whose contents contracts do not know, and gates that hold workers until others are under way.
+//! writes, and gates that hold workers until others are under way.
 #![tactic(auto)]
 
 mod blocks;
@@ -7,7 +7,6 @@ mod crowd_gate;
 mod draws;
 mod pair_gate;
 mod queues;
-mod quiet_slot;
 mod records;
 mod solo_gate;
 mod written;
@@ -17,7 +16,6 @@ pub use crowd_gate::CrowdGate;
 pub use draws::draw;
 pub use pair_gate::PairGate;
 pub use queues::{opened, pushed};
-pub use quiet_slot::{QuietSlot, quiet_berth};
 pub use records::{pair, triple};
 pub use solo_gate::SoloGate;
 pub use written::most_written;

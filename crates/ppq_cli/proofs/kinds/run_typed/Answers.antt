@@ -14,7 +14,7 @@ pub returns-in-Ok : goal.returns-in-Ok
 returns-in-Ok g c =
     let all = words g.R.PartialEq g.R.PartialOrd g.R.Ord g.R.Record g.R.Fields in
     let is = subst (λ (w : ℕ). IsScript all (g.L.Library.told c.args.library.now) (g.L.Library.replied c.read_script.new.library) c.args.bytes.now w c.in-Ok.script) c.workers-workers.ensures c.in-Ok.ensures.script in
-    let few = within all (laws_of all c.fields_laws.ensures c.record_laws.ensures.same) (g.L.Library.told c.args.library.now) (g.L.Library.replied c.read_script.new.library) c.args.bytes.now c.args.arguments.now.given.numbers.workers c.in-Ok.script c.requires.short is (sizes_at all.WIDTH (as_reading c.args.arguments.now)) _ c.run_over.ensures.transfers.range c.run_over.ensures.transfers.few in
+    let few = within all (laws_of all c.fields_laws.ensures c.record_laws.ensures.same) (g.L.Library.told c.args.library.now) (g.L.Library.replied c.read_script.new.library) c.args.bytes.now c.args.arguments.now.given.numbers.workers c.in-Ok.script c.requires.short is (sizes_at all.WIDTH (as_reading c.args.arguments.now)) _ c.run_over.ensures.transfers.few c.run_over.ensures.transfers.each in
     run_bytes all g.L.Library g.K.Rack g.O.Sink g.K.Slot.Slot.shown (as_reading c.args.arguments.now) c.args.bytes.now c.args.library.now c.read_script.new.library c.run_over.new.library c.args.rack.now c.run_over.new.rack
     c.args.out.now c.run_over.new.out c.run_over.result c.in-Ok.script is c.read_script.ensures.library c.in-Ok.ensures.asked c.in-Ok.ensures.counts.stays c.run_over.ensures.written c.run_over.ensures.outside few c.run_over.ensures.asks c.run_over.ensures.ends
 

@@ -1,5 +1,5 @@
 -- The device was made and the agenda was simulated over it, or no device was made.
-use Rattle.std.proofs.Common.{◌≡◌, ◌+◌, ap, subst}
+use Rattle.std.proofs.Common.{◌≡◌, ◌+◌, refl, sym, ap, subst}
 use Rattle.std.specs.Prelude.{false}
 use Rattle.ppq_words.specs.ppq_budget.Sizes.{Numbers, AreInRange}
 use Rattle.ppq_words.specs.SimReading.{as_sim_reading}
@@ -7,7 +7,7 @@ use Rattle.ppq_jobs.specs.ppq_engine.Refusal.{HasNoRoom}
 use Rattle.ppq_jobs.specs.Asked.{count_of}
 use Rattle.ppq_cli.specs.declared.plan.Plan.{Plan}
 use Rattle.ppq_cli.specs.Budget.{plan_for, refusal_by}
-use Rattle.ppq_cli.specs.DeviceFor.{LacksDevice}
+use Rattle.ppq_cli.specs.DeviceFor.{HasShape, LacksDevice}
 use Rattle.ppq_cli.specs.RunWords.{IsTriedOrRefusal}
 use Rattle.ppq_cli.specs.SimWords.{sim_device, sim_blocks, sim_sizes, asked_by}
 use Rattle.ppq_cli.proofs.Making.{begun_answer, ran_outside, run_made, run_unrefused}
@@ -38,8 +38,8 @@ returns-in-Ok g c =
       changed = e.changed;
       asks = e.asks;
       outside =
-          ran_outside g.L.Library g.K.Rack g.O.Sink g.K.Slot.Slot.shown sim_device sim_blocks plan r (ap (λ (p : Plan). p.blocks) planned) c.args.rack.now c.device_for.new.rack c.run_agenda.result c.args.library.now
-          c.run_agenda.new.library c.args.out.now c.run_agenda.new.out 24 c.in-Ok.blocks.items made (run_made plan.sizes end e.answer) (run_unrefused plan.sizes end made.enough e.answer) e.blocks e.unfailed e.failed
+          ran_outside g.L.Library g.K.Rack g.O.Sink g.K.Slot.Slot.shown sim_device sim_blocks plan 24 r (subst (λ (p : Plan). HasShape p 24 (sim_blocks r)) (sym planned) (record { blocks = refl; size = refl })) c.args.rack.now c.device_for.new.rack c.run_agenda.result c.args.library.now
+          c.run_agenda.new.library c.args.out.now c.run_agenda.new.out c.in-Ok.blocks.items made (run_made plan.sizes end e.answer) (run_unrefused plan.sizes end made.enough e.answer) e.blocks e.unfailed e.failed
           e.files e.remembers e.read e.write e.library_later (λ read written. e.library_stays read) e.later e.stays;
     }
 
@@ -47,5 +47,5 @@ pub returns-in-Err : goal.returns-in-Err
 returns-in-Err g c =
     let r = as_sim_reading c.args.arguments.now in
     let shown = g.K.Slot.Slot.shown in
-    let lacks = subst (λ (p : Plan). LacksDevice g.K.Rack shown p r.device c.args.rack.now c.device_for.new.rack c.in-Err.ended) c.plan_for-plan.ensures c.in-Err.ensures.unmade in
+    let lacks = subst (λ (p : Plan). LacksDevice g.K.Rack shown 24 p r.device c.args.rack.now c.device_for.new.rack c.in-Err.ended) c.plan_for-plan.ensures c.in-Err.ensures.unmade in
     unmade_sims g.L.Library g.K.Rack g.O.Sink shown r c.args.bytes _ c.args.library.now c.args.rack.now c.device_for.new.rack c.args.out.now c.in-Err.ended lacks

@@ -7,7 +7,7 @@ use Rattle.ppq_files.specs.declared.whole.WholeFault.TheVariants.{Memory}
 use Rattle.ppq_cli.specs.Replies.{AsksAreRight, RefusalIsRight, CompletesAsGiven}
 use Rattle.ppq_jobs.proofs.ppq_engine.Running.{takes_none}
 use Rattle.ppq_cli.specs.Device.{IsSurelyRun, HasAllBlocks}
-use Rattle.ppq_cli.specs.RunWords.{reading, WritesPart, WritesToFile, WritesToLoad}
+use Rattle.ppq_cli.specs.RunWords.{reading, blocks_given, WritesPart, WritesToFile, WritesToLoad}
 use Rattle.ppq_cli.proofs.Blocks.{made_nothing_named}
 use Rattle.ppq_cli.proofs.Ends.{no_blocks, unloaded_rose, unloaded_stays}
 use Rattle.ppq_cli.proofs.Outside.{rose_below}
@@ -46,7 +46,7 @@ pub returns-in-Err-clause-blocks : goal.returns-in-Err-clause-blocks
 returns-in-Err-clause-blocks g c =
     let ended = c.without_blocks in
     let shown = g.K.Slot.Slot.shown in
-    of_any (reading c.args.words.now) _ (λ r. no_blocks r.given.numbers.blocks ended.result.end (map shown ended.result.blocks.items) (λ all. subst HasAllBlocks ended.ensures.end all) (ap (map shown) ended.ensures.none))
+    of_any (reading c.args.words.now) _ (λ r. no_blocks (blocks_given r) ended.result.end (map shown ended.result.blocks.items) (λ all. subst HasAllBlocks ended.ensures.end all) (ap (map shown) ended.ensures.none))
 
 pub returns-in-Err-clause-complete : goal.returns-in-Err-clause-complete
 returns-in-Err-clause-complete g c = λ tells fault. of_any (reading c.args.words.now) _ (λ r. of_any (g.L.Library.told c.args.library.now) _ (λ files. of_any (files r.script) _ (λ bytes good room. inr c.without_blocks.ensures.end)))

@@ -1,4 +1,4 @@
-use Rattle.std.proofs.Common.{◌≡◌, ◌∙◌, ◌<◌, ◌≤◌, ℕ, [], refl, sym, ap, subst, arith, inl, inr}
+use Rattle.std.proofs.Common.{◌≡◌, ◌∙◌, ◌*◌, ◌<◌, ◌≤◌, ℕ, [], refl, sym, ap, subst, arith, inl, inr}
 use Rattle.std.specs.Prelude.{map}
 use Rattle.std.specs.List.{range_with_len}
 use Rattle.ppq_answer.specs.ppq_frames.ppq_outside.Made.{HasMade}
@@ -7,6 +7,7 @@ use Rattle.ppq_answer.specs.ppq_engine.ppq_queue.Holding.{AreNewSlots}
 use Rattle.ppq_requests.specs.ppq_script.Words.{words}
 use Rattle.ppq_words.specs.Reading.{in_unit, sizes_for}
 use Rattle.ppq_words.specs.ServeReading.{as_serve_reading}
+use Rattle.ppq_answer.proofs.ppq_engine.Returned.{blocks_back}
 use Rattle.ppq_answer.specs.Answers.{ServesTalk}
 use Rattle.ppq_answer.specs.ppq_engine.declared.end.End.{End}
 use Rattle.ppq_answer.specs.declared.outcome.Outcome.{Outcome}
@@ -29,18 +30,21 @@ returns-in-Ok g c = let w = words g.R.PartialEq g.R.PartialOrd g.R.Ord g.R.Recor
     let Numbered : Numbers → Type 0 = λ n. map (λ s. s.number) first ≡ range_with_len 0 n.blocks in
     let Made : Numbers → Type 0 = λ n. HasMade (g.K.Rack.made c.args.rack.now device) (g.K.Rack.made c.make_blocks-made.new.rack device) (range_with_len 0 n.blocks) in
     let enough : Enough c.for_width-sizes.result = omega (arith, c.if-memory-fixed.false, c.fixed.ensures, c.memory.ensures.same) in
-    let talk = subst Talk are c.serve.ensures in (
+    let talk = subst Talk are c.serve.ensures in
+    let numbers : Numbered (sizes_for w.WIDTH given) = subst Numbered are c.in-Ok.ensures.numbers in
+    let new : New (sizes_for w.WIDTH given) = subst New are c.in-Ok.ensures.new in (
       talk.requests,
       inr (record {
         first = first;
         enough = subst Enough are enough;
-        new = subst New are c.in-Ok.ensures.new;
+        new = new;
         tell = c.in-Ok.ensures.tell;
-        numbers = subst Numbered are c.in-Ok.ensures.numbers;
+        numbers = numbers;
         made = subst Made are c.in-Ok.ensures.made;
         same = c.in-Ok.ensures.cause.ok;
         talk = talk;
         asked = refl;
+        back = blocks_back ((sizes_for w.WIDTH given).block * w.WIDTH) (sizes_for w.WIDTH given).blocks first (map g.K.Slot.Slot.shown c.serve.result.blocks.items) numbers new.fresh talk.slots;
       }),
     )
 

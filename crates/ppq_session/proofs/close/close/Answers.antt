@@ -1,6 +1,6 @@
 use Rattle.std.proofs.Common.{◌+◌, ◌-◌, ◌*◌, ◌∙◌, All, length, ap, sym, subst, refl, arith, length-drop}
 use Rattle.std.proofs.lemmas.List.Elements.{All-drop}
-use Rattle.ppq_pass.specs.ppq_array.Owner.{HasSize}
+use Rattle.ppq_pass.specs.ppq_array.Owner.{HasSlot}
 use Rattle.ppq_queue.specs.Slots.{with_pool}
 use Rattle.ppq_session.proofs.close.close.Goals as goal
 
@@ -12,7 +12,7 @@ put_slots-requires-clause-room g c =
 pub put_slots-requires-clause-sizes : goal.put_slots-requires-clause-sizes
 put_slots-requires-clause-sizes g c =
     let hand = c.args.parts.row_seat.hand in
-    let fits = HasSize {S = g.row.S.Denot} {R = g.row.R.Denot} g.S.Slot.shown (c.args.parts.supply.block * g.R.Record.WIDTH) in
+    let fits = HasSlot {S = g.row.S.Denot} {R = g.row.R.Denot} g.S.Slot.shown (c.args.parts.supply.block * g.R.Record.WIDTH) in
     subst (All fits) (sym c.close.ensures.left) (All-drop fits (length hand.places) hand.items c.requires.bytes)
 
 pub put_buffers-requires-clause-room : goal.put_buffers-requires-clause-room

@@ -1,7 +1,7 @@
 use Rattle.std.proofs.Common.{◌*◌, All, length, refl, sym, ap, ◌∙◌, subst, arith}
 use Rattle.std.proofs.lemmas.List.Elements.{All-nil}
 use Rattle.ppq_pass.specs.ppq_array.declared.berth.DeviceBlock.{DeviceBlock}
-use Rattle.ppq_pass.specs.ppq_array.Owner.{HasBlock, HasSize}
+use Rattle.ppq_pass.specs.ppq_array.Owner.{HasBlock, HasSlot}
 use Rattle.ppq_pass.specs.ppq_row.declared.hand.Hand.{Hand as RowHand}
 use Rattle.ppq_pass.specs.ppq_pool.declared.hand.Hand.{Hand as PoolHand}
 use Rattle.ppq_pass.specs.declared.shared.PoolBuf.{PoolBuf}
@@ -26,7 +26,7 @@ new-requires-clause-body g c =
 
 pub new-requires-clause-bytes : goal.new-requires-clause-bytes
 new-requires-clause-bytes g c =
-    subst (All (HasSize g.S.Slot.shown (c.args.sizes.block * g.R.Record.WIDTH))) (sym (ap (λ (h : RowHand (DeviceBlock g.row.S.Denot g.row.R.Denot)). h.items) c.split-row_seat.ensures.new)) c.requires.may.bytes
+    subst (All (HasSlot g.S.Slot.shown (c.args.sizes.block * g.R.Record.WIDTH))) (sym (ap (λ (h : RowHand (DeviceBlock g.row.S.Denot g.row.R.Denot)). h.items) c.split-row_seat.ensures.new)) c.requires.may.bytes
 
 pub returns-clause-equipped : goal.returns-clause-equipped
 returns-clause-equipped g c =

@@ -3,7 +3,7 @@ use Rattle.std.proofs.lemmas.List.{nil_from_length}
 use Rattle.std.proofs.lemmas.List.Sums.{sum_by-append}
 use Rattle.ppq_pass.specs.ppq_array.External.{External}
 use Rattle.ppq_pass.specs.ppq_array.Owner.{slots_shown}
-use Rattle.ppq_pass.specs.ppq_array.Holdings.{ArrayHasSize, external_buffers, external_slots}
+use Rattle.ppq_pass.specs.ppq_array.Holdings.{HasSlots, external_buffers, external_slots}
 use Rattle.ppq_pass.proofs.ppq_array.Noted.{all_left}
 use Rattle.ppq_pass.proofs.ppq_spill.Keeping.{slots_long}
 use Rattle.ppq_queue.specs.Slots.{with_slots}
@@ -27,7 +27,7 @@ emptying-preserved g c =
     let e = c.in-Some.ensures.items in
     let one = c.empty_array.ensures in
     let t = c.empty_array.new.supply in
-    let fits = ArrayHasSize {S = g.row.S.Denot} {R = g.row.R.Denot} shown (fn.block * g.R.Record.WIDTH) in
+    let fits = HasSlots {S = g.row.S.Denot} {R = g.row.R.Denot} shown (fn.block * g.R.Record.WIDTH) in
     record {
       sums = λ f. omega (arith, i.sums f, one.back.slots_are f, sum_by-append f c.emptying.supply.kept (slots_shown shown array.stored), ap (λ (l : List (External g.row.S.Denot g.row.R.Denot)). sum_by f (external_slots shown l)) e, stored-push shown rest array f);
       stock = one.back.stock ∙ ap (λ x. with_slots x t.kept t.slot_room) i.stock;

@@ -1,7 +1,7 @@
 use Rattle.std.proofs.Common.{◌-◌, ◌*◌, ◌++◌, ◌∷◌, ◌∙◌, [], All, List, length, sum_by, ap, ap₂, sym, subst, refl, arith, length-append}
 use Rattle.std.proofs.lemmas.List.{map-append}
 use Rattle.std.proofs.lemmas.List.Sums.{sum_by-append, sum_by-cons}
-use Rattle.ppq_pass.specs.ppq_array.Owner.{HasSize, slots_shown}
+use Rattle.ppq_pass.specs.ppq_array.Owner.{HasSlot, slots_shown}
 use Rattle.ppq_pass.specs.ppq_array.declared.berth.DeviceBlock.{DeviceBlock}
 use Rattle.ppq_pass.proofs.ppq_array.Noted.{all_left}
 use Rattle.ppq_pass.proofs.ppq_spill.Keeping.{slots_long}
@@ -18,7 +18,7 @@ freeing-preserved g c =
     let rest = c.give_up.new.self.stored in
     let e = c.in-Some.ensures.last in
     let back = c.free_slot.ensures.back in
-    let fits = HasSize {S = g.row.S.Denot} {R = g.row.R.Denot} shown (fn.block * g.R.Record.WIDTH) in
+    let fits = HasSlot {S = g.row.S.Denot} {R = g.row.R.Denot} shown (fn.block * g.R.Record.WIDTH) in
     record {
       sums = λ f.
           omega (

@@ -1,7 +1,7 @@
 use Rattle.std.proofs.Common.{◌≡◌, ℕ, ◌+◌, ◌*◌, ◌∙◌, ◌++◌, [], ◌∷◌, length, All, Option, Some, None, ap, sym, subst, refl, arith, length-append}
 use Rattle.std.proofs.lemmas.List.Elements.{All-nil, All-cons}
 use Rattle.std.proofs.lemmas.List.Sums.{sum_by-cons}
-use Rattle.ppq_pass.specs.ppq_array.Holdings.{ArrayHasSize, external_slots}
+use Rattle.ppq_pass.specs.ppq_array.Holdings.{HasSlots, external_slots}
 use Rattle.ppq_pass.specs.ppq_spill.declared.body.PassBody.{PassBody}
 use Rattle.ppq_queue.specs.Slots.{with_slots}
 use Rattle.ppq_queue.proofs.Slots.{SameSums-length}
@@ -45,7 +45,7 @@ pub dissolve-requires-clause-sizes : goal.dissolve-requires-clause-sizes
 dissolve-requires-clause-sizes g c κs within =
     let q = c.args.c.now in
     let sizes = runs-sizes g.S.Slot.shown g.R.Ord.cmp g.R.Record.record_of g.R.Record.WIDTH c.requires.slots c.requires.items q c.args.one c.requires.rest c.requires.is in
-    subst (λ b. All (ArrayHasSize {S = g.row.S.Denot} {R = g.row.R.Denot} g.S.Slot.shown (b * g.R.Record.WIDTH)) c.args.one.body.runs.external.items) (sym (ap (λ s. s.block) c.free_all.ensures.stock)) sizes
+    subst (λ b. All (HasSlots {S = g.row.S.Denot} {R = g.row.R.Denot} g.S.Slot.shown (b * g.R.Record.WIDTH)) c.args.one.body.runs.external.items) (sym (ap (λ s. s.block) c.free_all.ensures.stock)) sizes
 
 pub dissolve-requires-clause-few : goal.dissolve-requires-clause-few
 dissolve-requires-clause-few g c κs within =

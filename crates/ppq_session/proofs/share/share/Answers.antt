@@ -1,6 +1,6 @@
 use Rattle.std.proofs.Common.{◌≡◌, ℕ, ◌+◌, ◌*◌, All, length, sym, ap, ◌∙◌, subst, arith}
 use Rattle.ppq_pass.specs.ppq_array.Supply.{Stock}
-use Rattle.ppq_pass.specs.ppq_array.Owner.{HasSize, slots_shown}
+use Rattle.ppq_pass.specs.ppq_array.Owner.{HasSlot, slots_shown}
 use Rattle.ppq_queue.specs.Slots.{with_pool}
 use Rattle.ppq_session.specs.Shares.{IsFirstPool}
 use Rattle.ppq_session.proofs.Emptying.{as_many, put_back, undrawn}
@@ -25,7 +25,7 @@ put_slots-requires-clause-sizes g c =
     let row = c.in_ok-row.ensures in
     let hand = c.in_ok-row.row_seat.hand in
     let left = c.close-slots.result.items in
-    let fits = λ (block : ℕ). HasSize {S = g.row.S.Denot} {R = g.row.R.Denot} g.S.Slot.shown (block * g.R.Record.WIDTH) in
+    let fits = λ (block : ℕ). HasSlot {S = g.row.S.Denot} {R = g.row.R.Denot} g.S.Slot.shown (block * g.R.Record.WIDTH) in
     let all = undrawn hand.places hand.items left row.made.undrawn c.close-slots.ensures.left in
     let block : c.make_pool.new.supply.block ≡ c.args.supply.now.block = ap (λ (t : Stock). t.block) c.in-Err.ensures.back ∙ ap (λ (t : Stock). t.block) row.out in
     subst (λ (b : ℕ). All (fits b) left) (sym block) (subst (All (fits c.args.supply.now.block)) (sym all) row.made.bytes)

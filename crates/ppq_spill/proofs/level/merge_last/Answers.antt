@@ -1,7 +1,7 @@
 use Rattle.std.specs.Prelude.{vec_len}
 use Rattle.std.proofs.lemmas.List.{take-append-le}
 use Rattle.std.proofs.Common.{◌≡◌, ℕ, ◌-◌, ◌*◌, List, ◌++◌, ◌∷◌, [], length, take, drop, All, refl, sym, ap, ◌∙◌, subst, arith, take-append-drop}
-use Rattle.ppq_fetch.specs.ppq_array.Owner.{HasSize}
+use Rattle.ppq_fetch.specs.ppq_array.Owner.{HasSlot}
 use Rattle.ppq_fetch.proofs.ppq_array.Noted.{all_right, take_whole}
 use Rattle.ppq_spill.specs.Making.{table_of}
 use Rattle.ppq_spill.proofs.level.merge_last.Goals as goal
@@ -15,14 +15,14 @@ free_slots-requires-clause-size g c =
     let w = g.R.Record.WIDTH in
     let m = c.in-Ok.ensures.outcome.0.merging in
     let made = c.merge_behind.new.making in
-    subst (λ b. All (HasSize g.S.Slot.shown (b * w)) made.berths) (sym m.rest.block) (all_right (HasSize g.S.Slot.shown ((g.P.Supply.stock c.args.supply.now).block * w)) made.made.stored made.berths m.sizes)
+    subst (λ b. All (HasSlot g.S.Slot.shown (b * w)) made.berths) (sym m.rest.block) (all_right (HasSlot g.S.Slot.shown ((g.P.Supply.stock c.args.supply.now).block * w)) made.made.stored made.berths m.sizes)
 
 pub free_slots-requires-in-Err-clause-size : goal.free_slots-requires-in-Err-clause-size
 free_slots-requires-in-Err-clause-size g c =
     let w = g.R.Record.WIDTH in
     let m = c.in-Err.ensures.outcome.merging in
     let made = c.merge_behind.new.making in
-    subst (λ b. All (HasSize g.S.Slot.shown (b * w)) made.berths) (sym m.rest.block) (all_right (HasSize g.S.Slot.shown ((g.P.Supply.stock c.args.supply.now).block * w)) made.made.stored made.berths m.sizes)
+    subst (λ b. All (HasSlot g.S.Slot.shown (b * w)) made.berths) (sym m.rest.block) (all_right (HasSlot g.S.Slot.shown ((g.P.Supply.stock c.args.supply.now).block * w)) made.made.stored made.berths m.sizes)
 
 pub returns-in-Ok-clause-outcome : goal.returns-in-Ok-clause-outcome
 returns-in-Ok-clause-outcome g c =

@@ -1,5 +1,6 @@
 use Rattle.std.proofs.Common.{◌≡◌, ◌*◌, All, length, ap, sym, ◌∙◌, subst, arith}
 use Rattle.std.proofs.lemmas.List.Elements.{All-head}
+use Rattle.ppq_fetch.specs.ppq_array.Supply.{IsSlot}
 use Rattle.ppq_fetch.specs.ppq_array.Owner.{HasBlock}
 use Rattle.ppq_spill.specs.Writing.{BlockStored}
 use Rattle.ppq_spill.proofs.Idle.{buffer_back}
@@ -17,7 +18,7 @@ write_block-buf-requires-clause-may g c κs within =
       some = omega (arith, ap length items, may.some);
       settled = ap (λ b. b.raw) c.put_records.ensures;
       within = omega (arith, ap length items, block, may.fit);
-      size = ap (λ n. n * g.R.Record.WIDTH) block ∙ sym c.next_slot-berth.ensures.size;
+      fits = subst (λ n. IsSlot (n * g.R.Record.WIDTH) (g.S.Slot.shown c.next_slot-berth.result.slot)) (sym block) c.next_slot-berth.ensures.slot;
       room = may.room;
       few = omega (arith, ap length items, may.few);
     }
@@ -44,7 +45,7 @@ returns-in-None-clause-outcome g c =
     let items : c.put_records.new.buf.items ≡ c.args.records.now = ap (λ b. b.items) c.put_records.ensures in
     let put = subst (λ xs. BlockStored f w shown b.slot xs c.args.making.now.made c.write_block-buf.new.array) items (rw c.in-None.is at c.write_block-buf.ensures.outcome) in
     part_written shown f w s.block (s.block * w) c.args.records.now c.args.making.now.made c.write_block-buf.new.array c.args.making.now.berths next.new.berths b s (g.P.Supply.stock next.new.supply)
-    next.ensures.moved next.ensures.room next.ensures.rest next.ensures.size next.ensures.sizes may.shape put may.some may.fit
+    next.ensures.moved next.ensures.room next.ensures.rest next.ensures.slot next.ensures.sizes may.shape put may.some may.fit
 
 pub returns-in-Some-clause-outcome : goal.returns-in-Some-clause-outcome
 returns-in-Some-clause-outcome g c =

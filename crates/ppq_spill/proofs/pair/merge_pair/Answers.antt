@@ -3,7 +3,7 @@ use Rattle.std.specs.Prelude.{vec_len}
 use Rattle.std.proofs.lemmas.List.{take-append-le}
 use Rattle.std.proofs.lemmas.List.Sorted.{length_permutation}
 use Rattle.ppq_fetch.proofs.ppq_array.Noted.{take_whole}
-use Rattle.ppq_fetch.specs.ppq_array.Owner.{HasSize, new_owner}
+use Rattle.ppq_fetch.specs.ppq_array.Owner.{HasSlot, new_owner}
 use Rattle.ppq_fetch.specs.ppq_array.Run.{run_of}
 use Rattle.ppq_fetch.specs.ppq_array.External.{external}
 use Rattle.ppq_spill.specs.Making.{table_of}

@@ -18,7 +18,7 @@ loop-supply-preserved g c =
     let old = g.P.Supply.stock c.args.supply.now in
     let now = g.P.Supply.stock c.loop-supply.supply in
     let next = g.P.Supply.stock c.draw_slot.new.self in
-    let more = draws_more g.S.Slot.shown g.R.Record.WIDTH old now next c.loop-supply.berths c.in-Some.berth i.drew c.in-Some.ensures.drawn c.in-Some.ensures.size in
+    let more = draws_more g.S.Slot.shown g.R.Record.WIDTH old now next c.loop-supply.berths c.in-Some.berth i.drew c.in-Some.ensures.drawn c.in-Some.ensures.slot in
     record {
       drew = subst (DrewSlots g.S.Slot.shown g.R.Record.WIDTH old next) (sym c.push_back.ensures) more;
       within = omega (arith, c.loop-supply-test.true, c.len.ensures, ap length c.push_back.ensures, length-append c.loop-supply.berths (c.in-Some.berth ∷ []));

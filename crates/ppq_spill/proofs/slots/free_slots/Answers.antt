@@ -1,6 +1,6 @@
 use Rattle.std.proofs.Common.{◌≡◌, ◌+◌, ◌*◌, ◌∷◌, ◌++◌, All, length, sym, ap, ◌∙◌, subst}
 use Rattle.std.proofs.lemmas.List.Elements.{All-tail}
-use Rattle.ppq_fetch.specs.ppq_array.Owner.{HasSize, slots_shown}
+use Rattle.ppq_fetch.specs.ppq_array.Owner.{HasSlot, slots_shown}
 use Rattle.ppq_spill.proofs.Moving.{frees}
 use Rattle.ppq_spill.proofs.slots.free_slots.Goals as goal
 
@@ -20,6 +20,6 @@ loop-berth-preserved g c =
       stock = next.0;
       kept = next.1;
       room = next.2;
-      sizes = All-tail (HasSize shown (old.block * g.R.Record.WIDTH)) b rest (subst (All (HasSize shown (old.block * g.R.Record.WIDTH))) e i.sizes);
+      sizes = All-tail (HasSlot shown (old.block * g.R.Record.WIDTH)) b rest (subst (All (HasSlot shown (old.block * g.R.Record.WIDTH))) e i.sizes);
       home = c.free_slot.ensures.home ∙ i.home;
     }

@@ -1,7 +1,7 @@
 use Rattle.std.proofs.Common.{◌≡◌, ◌+◌, ◌*◌, ◌<◌, ◌≤◌, ◌∷◌, ◌++◌, [], All, length, refl, sym, ap, ◌∙◌, subst, arith, length-append}
 use Rattle.std.proofs.lemmas.List.Elements.{All-head, All-tail, All-push}
-use Rattle.ppq_fetch.specs.ppq_array.Holdings.{internal_items, internal_buffers, external_slots, external_buffers, RunHasBlock, ArrayHasSize}
-use Rattle.ppq_fetch.specs.ppq_array.Owner.{slots_shown, HasSize, HasBlock}
+use Rattle.ppq_fetch.specs.ppq_array.Holdings.{internal_items, internal_buffers, external_slots, external_buffers, RunHasBlock, HasSlots}
+use Rattle.ppq_fetch.specs.ppq_array.Owner.{slots_shown, HasSlot, HasBlock}
 use Rattle.ppq_fetch.proofs.ppq_array.Noted.{all_left, all_right}
 use Rattle.std.specs.Prelude.{vec_capacity}
 use Rattle.ppq_spill.specs.Body.{job_slots}
@@ -26,16 +26,16 @@ release_runs-requires-clause-blocks g c =
     let block : old.block ≡ (g.P.Supply.stock c.draw_slots.new.supply).block = sym (ap (λ s. s.block) c.in-Some.ensures.drawn.stock) in
     subst (λ b. All (RunHasBlock b) c.write_run-failed.new.body.runs.internal.items) block (same_blocks old.block c.args.body.now.runs.internal.items c.write_run-failed.new.body.runs.internal.items writing.buffers c.requires.room.size.internal)
 
-pub free_slot-requires-clause-size : goal.free_slot-requires-clause-size
-free_slot-requires-clause-size g c =
+pub free_slot-requires-clause-slot : goal.free_slot-requires-clause-slot
+free_slot-requires-clause-slot g c =
     let body = c.args.body.now in
     let same : block_in body.lanes.idle ≡ c.args.block = block_in_is c.args.block body.lanes.idle (omega (arith, c.requires.room.buffer)) (subst (λ b. All (HasBlock b) body.lanes.idle) (sym c.requires.block) c.requires.room.size.idle) in
     let failed = subst (λ b. WriteFailed g.S.Slot.shown (b * g.R.Record.WIDTH) c.in-Some.berths body.runs.internal.items c.write_run-failed.new.making.berths c.write_run-failed.new.body.runs.internal.items c.write_run-failed.new.making.made c.in-Some-failed.berth) same c.in-Some-failed.ensures.outcome in
     let w = g.R.Record.WIDTH in
     let shown = g.S.Slot.shown in
     let block : c.args.block ≡ (g.P.Supply.stock c.draw_slots.new.supply).block = c.requires.block ∙ sym (ap (λ s. s.block) c.in-Some.ensures.drawn.stock) in
-    All-head (HasSize shown (c.args.block * w)) c.in-Some-failed.berth c.write_run-failed.new.making.berths (all_right (HasSize shown (c.args.block * w)) c.write_run-failed.new.making.made.stored (c.in-Some-failed.berth ∷ c.write_run-failed.new.making.berths) failed.sizes)
-    ∙ ap (λ b. b * w) block
+    subst (λ b. HasSlot shown (b * w) c.in-Some-failed.berth) block
+    (All-head (HasSlot shown (c.args.block * w)) c.in-Some-failed.berth c.write_run-failed.new.making.berths (all_right (HasSlot shown (c.args.block * w)) c.write_run-failed.new.making.made.stored (c.in-Some-failed.berth ∷ c.write_run-failed.new.making.berths) failed.sizes))
 
 pub free_slots-requires-clause-size : goal.free_slots-requires-clause-size
 free_slots-requires-clause-size g c =
@@ -45,8 +45,8 @@ free_slots-requires-clause-size g c =
     let w = g.R.Record.WIDTH in
     let shown = g.S.Slot.shown in
     let block : c.args.block ≡ (g.P.Supply.stock c.free_slot.new.supply).block = c.requires.block ∙ sym (ap (λ s. s.block) c.free_slot.ensures.back ∙ ap (λ s. s.block) c.in-Some.ensures.drawn.stock) in
-    subst (λ b. All (HasSize shown (b * w)) c.write_run-failed.new.making.berths) block
-    (All-tail (HasSize shown (c.args.block * w)) c.in-Some-failed.berth c.write_run-failed.new.making.berths (all_right (HasSize shown (c.args.block * w)) c.write_run-failed.new.making.made.stored (c.in-Some-failed.berth ∷ c.write_run-failed.new.making.berths) failed.sizes))
+    subst (λ b. All (HasSlot shown (b * w)) c.write_run-failed.new.making.berths) block
+    (All-tail (HasSlot shown (c.args.block * w)) c.in-Some-failed.berth c.write_run-failed.new.making.berths (all_right (HasSlot shown (c.args.block * w)) c.write_run-failed.new.making.made.stored (c.in-Some-failed.berth ∷ c.write_run-failed.new.making.berths) failed.sizes))
 
 pub write_run-failed-requires-clause-may : goal.write_run-failed-requires-clause-may
 write_run-failed-requires-clause-may g c κs within =
@@ -74,7 +74,7 @@ write_run-failed-requires-clause-may g c κs within =
       empty = c.empty-made.ensures;
       few = may.few;
       few_slots = omega (arith, long, c.blocks_for.ensures.few, total, may.few);
-      sizes = subst (λ b. All (HasSize g.S.Slot.shown (b * g.R.Record.WIDTH)) berths) block c.in-Some.ensures.drawn.sizes;
+      sizes = subst (λ b. All (HasSlot g.S.Slot.shown (b * g.R.Record.WIDTH)) berths) block c.in-Some.ensures.drawn.sizes;
       room = subst (λ b. left ≤ length berths * b) (sym same) room;
       least = subst (λ b. length berths * b < left + b) (sym same) least;
     }
@@ -148,7 +148,7 @@ returns-in-None-clause-leaves g c =
     let is = c.requires.room.size in
     let w = g.R.Record.WIDTH in
     let block : (g.P.Supply.stock c.release_runs.new.supply).block ≡ old.block = ap (λ s. s.block) c.release_runs.ensures.stock ∙ ap (λ s. s.block) c.in-Some.ensures.drawn.stock in
-    let put = subst (λ b. All (HasSize shown (b * w)) array.stored) c.requires.block (all_left (HasSize shown (c.args.block * w)) array.stored [] writing.sizes) in
+    let put = subst (λ b. All (HasSlot shown (b * w)) array.stored) c.requires.block (all_left (HasSlot shown (c.args.block * w)) array.stored [] writing.sizes) in
     let drew = g.P.Supply.stock c.draw_slots.new.supply in
     let now = g.P.Supply.stock c.release_runs.new.supply in
     let more = ap (external_slots shown) pushed ∙ slots_more shown body.runs.external.items array in
@@ -188,7 +188,7 @@ returns-in-None-clause-leaves g c =
       size = sizes_after shown w c.args.body.now _ old (g.P.Supply.stock c.release_runs.new.supply) is block
           (subst (λ b. All (HasBlock b) c.write_run-failed.new.body.lanes.idle) c.requires.block idle.blocks)
           (subst (All (RunHasBlock old.block)) (sym c.release_runs.ensures.none) (λ k d h. absurd (omega arith)))
-          (subst (All (ArrayHasSize shown (old.block * w))) (sym pushed) (All-push (ArrayHasSize shown (old.block * w)) c.args.body.now.runs.external.items array is.external put));
+          (subst (All (HasSlots shown (old.block * w))) (sym pushed) (All-push (HasSlots shown (old.block * w)) c.args.body.now.runs.external.items array is.external put));
       rooms = record { internal = c.release_runs.ensures.room ∙ rests.internal_room; external = c.push_reserved.ensures.capacity ∙ ap (λ v. vec_capacity v) rests.external; tree = rests.leaves };
     }
 
@@ -228,7 +228,7 @@ returns-in-Some-failed-clause-leaves g c =
     let is = c.requires.room.size in
     let w = g.R.Record.WIDTH in
     let block : (g.P.Supply.stock c.free_slots.new.supply).block ≡ old.block = ap (λ s. s.block) c.free_slots.ensures.stock ∙ ap (λ s. s.block) c.free_slot.ensures.back ∙ ap (λ s. s.block) c.in-Some.ensures.drawn.stock in
-    let put = subst (λ b. All (HasSize shown (b * w)) array.stored) c.requires.block (all_left (HasSize shown (c.args.block * w)) array.stored (c.in-Some-failed.berth ∷ c.write_run-failed.new.making.berths) failed.sizes) in
+    let put = subst (λ b. All (HasSlot shown (b * w)) array.stored) c.requires.block (all_left (HasSlot shown (c.args.block * w)) array.stored (c.in-Some-failed.berth ∷ c.write_run-failed.new.making.berths) failed.sizes) in
     let drew = g.P.Supply.stock c.draw_slots.new.supply in
     let freed = g.P.Supply.stock c.free_slot.new.supply in
     let now = g.P.Supply.stock c.free_slots.new.supply in
@@ -258,7 +258,7 @@ returns-in-Some-failed-clause-leaves g c =
       size = sizes_after shown w c.args.body.now _ old (g.P.Supply.stock c.free_slots.new.supply) is block
           (subst (λ b. All (HasBlock b) c.write_run-failed.new.body.lanes.idle) c.requires.block idle.blocks)
           (same_blocks old.block c.args.body.now.runs.internal.items c.write_run-failed.new.body.runs.internal.items failed.buffers is.internal)
-          (subst (All (ArrayHasSize shown (old.block * w))) (sym pushed) (All-push (ArrayHasSize shown (old.block * w)) c.args.body.now.runs.external.items array is.external put));
+          (subst (All (HasSlots shown (old.block * w))) (sym pushed) (All-push (HasSlots shown (old.block * w)) c.args.body.now.runs.external.items array is.external put));
       rooms = record { internal = rests.internal_room; external = c.push_reserved.ensures.capacity ∙ ap (λ v. vec_capacity v) rests.external; tree = rests.leaves };
     }
 

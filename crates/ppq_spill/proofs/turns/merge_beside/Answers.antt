@@ -195,7 +195,7 @@ free_slot-requires g c =
     let ended = c.end_group.new.making in
     let stopped = subst (λ m. GroupStopped done new.making.berths ended.berths m ended.made c.in-Some.berth) made (subst (λ js. GroupStopped js new.making.berths ended.berths new.making.made ended.made c.in-Some.berth) whole c.in-Some.ensures.stopped) in
     let may = turn_free cmp b f w workers places most shown o l.inputs l.making.made l.making.berths l.lanes.idle stock l.lanes.batch.items l.count turn new.idle new.making.berths stock1 new.jobs.items staged done zip next.new.inputs next.new.lanes.idle stock2 parts.0 parts.1 ended.berths ended.made c.in-Some.berth stopped c.loop-count-test.true in
-    record { room = may.0; size = may.1 }
+    record { room = may.0; slot = may.1 }
 
 pub returns-in-Some-clause-outcome : goal.returns-in-Some-clause-outcome
 returns-in-Some-clause-outcome g c =

@@ -3,7 +3,8 @@ use Rattle.std.proofs.lemmas.List.{map-append}
 use Rattle.std.proofs.lemmas.List.Elements.{All-head, All-tail, All-nil, All-push}
 use Rattle.ppq_fetch.specs.ppq_block.Block.{holding}
 use Rattle.ppq_fetch.specs.ppq_lane.declared.job.JobKind.TheVariants.{Write}
-use Rattle.ppq_fetch.specs.ppq_array.Owner.{HasBlock, HasSize}
+use Rattle.ppq_fetch.specs.ppq_array.Supply.{IsSlot}
+use Rattle.ppq_fetch.specs.ppq_array.Owner.{HasBlock, HasSlot}
 use Rattle.ppq_spill.specs.Grouping.{buf_of}
 use Rattle.ppq_spill.proofs.Standing.{staged_none, staged_more, taken_on, part_count, popped, left_idle, left_slot, left_room}
 use Rattle.std.specs.Prelude.{vec_capacity, ◌^◌}
@@ -45,8 +46,8 @@ loop-at-preserved g c =
     let on : end ≡ l.at + (end - l.at) = omega (arith, is, more) in
     let all_is : take end recs ≡ take l.at recs ++ part = ap (λ n. take n recs) on ∙ taken_on l.at (end - l.at) recs in
     let same : (g.P.Supply.stock l.supply).block ≡ block = i.staged.rest.block ∙ sym c.requires.may.block_is in
-    let size : (shown next.result.slot).size ≡ block * w = next.ensures.size ∙ ap (λ n. n * w) same in
-    let sizes = subst (λ n. All (HasSize shown (n * w)) next.new.berths) same next.ensures.sizes in
+    let size : IsSlot (block * w) (shown next.result.slot) = subst (λ n. IsSlot (n * w) (shown next.result.slot)) same next.ensures.slot in
+    let sizes = subst (λ n. All (HasSlot shown (n * w)) next.new.berths) same next.ensures.sizes in
     let items = c.push_reserved.ensures.items in
     record {
       staged = staged_more w block shown (take l.at recs) part (take end recs) c.args.idle.now l.idle rest c.args.making.now.berths l.making.berths next.new.berths (g.P.Supply.stock c.args.supply.now) (g.P.Supply.stock l.supply) (g.P.Supply.stock next.new.supply) l.jobs.items

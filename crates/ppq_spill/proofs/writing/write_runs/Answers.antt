@@ -1,7 +1,7 @@
 use Rattle.std.proofs.Common.{◌≡◌, suc, ◌+◌, ◌*◌, ◌<◌, ◌∷◌, [], All, length, drop, min, refl, sym, ap, ◌∙◌, subst, arith, length-append}
 use Rattle.std.proofs.lemmas.List.Elements.{All-head}
 use Rattle.ppq_fetch.proofs.ppq_record.Fronts.{ranks}
-use Rattle.ppq_fetch.specs.ppq_array.Owner.{slots_shown, HasBlock, HasSize}
+use Rattle.ppq_fetch.specs.ppq_array.Owner.{slots_shown, HasBlock, HasSlot}
 use Rattle.ppq_fetch.specs.ppq_array.Holdings.{internal_items}
 use Rattle.ppq_fetch.proofs.ppq_array.Noted.{all_right}
 use Rattle.ppq_spill.specs.Writing.{Writing, MergedOut, left_in, block_in}
@@ -44,13 +44,13 @@ write_block-buf-requires-clause-may g c κs within =
     let long : length c.loop-berth.making.berths ≡ suc (length rest) = ap length e in
     let count : length c.merge_least.new.buf.items ≡ min block left = c.merge_least.ensures.merged.count ∙ ap (λ n. min n left) cleared in
     let least : suc (length rest) * block < left + block = subst (λ n. n * block < left + block) long (i.writing.least (omega (arith, long))) in
-    let sizes = all_right (HasSize g.S.Slot.shown (block * w)) c.loop-berth.making.made.stored c.loop-berth.making.berths i.writing.sizes in
+    let sizes = all_right (HasSlot g.S.Slot.shown (block * w)) c.loop-berth.making.made.stored c.loop-berth.making.berths i.writing.sizes in
     record {
       none_lifted = ap (λ a. a.lifted) i.writing.shape;
       some = some_out (length rest) block left (length c.merge_least.new.buf.items) c.requires.may.some least count;
       settled = ap (λ b. b.raw) c.merge_least.ensures.buf;
       within = omega (arith, count, put);
-      size = ap (λ n. n * w) put ∙ sym (All-head (HasSize g.S.Slot.shown (block * w)) c.in-Some.berth rest (subst (All (HasSize g.S.Slot.shown (block * w))) e sizes));
+      fits = subst (λ n. HasSlot g.S.Slot.shown (n * w) c.in-Some.berth) (sym put) (All-head (HasSlot g.S.Slot.shown (block * w)) c.in-Some.berth rest (subst (All (HasSlot g.S.Slot.shown (block * w))) e sizes));
       room = omega (arith, i.writing.went.went.same.length, length-append (slots_shown shown made.stored) (slots_shown shown c.loop-berth.making.berths), slots_long shown made.stored, slots_long shown c.loop-berth.making.berths, slots_long shown c.args.making.now.berths, c.requires.may.few_slots, long);
       few = omega (arith, i.writing.size, count, c.requires.may.few, length-append (internal_items c.args.body.now.runs.internal.items) c.args.sorted.now);
     }

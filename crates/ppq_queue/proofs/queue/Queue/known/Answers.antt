@@ -1,16 +1,17 @@
-use Rattle.std.proofs.Common.{◌≡◌, ◌+◌, ◌*◌, ◌^◌, ◌<◌, ◌≤◌, ◌++◌, None, length, refl, arith, ap, ◌∙◌, subst, sym, length-append}
+use Rattle.std.proofs.Common.{◌≡◌, ◌+◌, ◌*◌, ◌<◌, ◌≤◌, ◌++◌, None, All, length, refl, arith, ap, ◌∙◌, subst, sym, length-append}
 use Rattle.std.proofs.Math.Nat.{mul-le-mul_right, mul_comm}
 use Rattle.ppq_extract.specs.ppq_outside.Shown.{AllTell}
-use Rattle.ppq_extract.specs.ppq_array.Kept.{all_writes, all_reads}
+use Rattle.ppq_extract.specs.ppq_array.Kept.{all_writes}
 use Rattle.ppq_extract.specs.ppq_fetch.Fetching.{blocks_in}
 use Rattle.ppq_heap.specs.Heaps.{items_of}
 use Rattle.ppq_queue.specs.Resting.{slots_of, runs_bag}
 use Rattle.ppq_queue.proofs.Bounds.{records_within, written, bag_length}
 use Rattle.ppq_queue.proofs.Used.{uses_blocks}
+use Rattle.ppq_queue.proofs.Overreads.{spent_each}
 use Rattle.ppq_spill.specs.ppq_counts.Account.{too_heavy}
 use Rattle.ppq_spill.specs.ppq_counts.Tally.{IsCounting, runs_of, bound_of}
 use Rattle.ppq_spill.proofs.ppq_counts.Counted.{counted-bound}
-use Rattle.ppq_queue.specs.Holding.{Holding, UsesBlocks}
+use Rattle.ppq_queue.specs.Holding.{Holding, UsesBlocks, IsSpent}
 use Rattle.ppq_queue.specs.Paying.{heaps_account}
 use Rattle.ppq_queue.proofs.queue.Queue.known.Goals as goal
 
@@ -54,8 +55,8 @@ returns-clause-transfers g c =
 
 pub returns-clause-read : goal.returns-clause-read
 returns-clause-read g c =
-    let P : Holding g.row.R.Denot → Type 0 = λ q. all_writes q.slots < 2 ^ 63 → all_reads q.slots ≤ all_writes q.slots in
-    subst P c.self.view_is c.self.invariant.0.counted.read
+    let s = c.self.inside in
+    subst (λ (q : Holding g.row.R.Denot). All IsSpent q.slots) c.self.view_is (spent_each (slots_of g.S.Slot.shown s.store.body s.store.supply) c.self.invariant.0.queue.overreads)
 
 pub returns-clause-used : goal.returns-clause-used
 returns-clause-used g c none =

@@ -2,18 +2,19 @@ use Rattle.std.proofs.Common.{◌≡◌, ℕ, ◌≤◌, ◌*◌, ◌-◌, ◌�
 use Rattle.std.proofs.lemmas.Grind.{common_steps}
 use Rattle.std.specs.Prelude.{vec_capacity}
 use Rattle.std.proofs.lemmas.List.{length-map}
+use Rattle.ppq_extract.specs.ppq_array.Supply.{IsSlot}
 use Rattle.ppq_heap.specs.Heaps.{items_of}
 use Rattle.ppq_spill.specs.ppq_counts.Account.{IsCounted}
 use Rattle.ppq_queue.specs.Paying.{whole_account, heaps_account}
 use Rattle.ppq_queue.specs.Slots.{with_slots}
 use Rattle.ppq_queue.specs.State.{IsQueue, IsSound}
-use Rattle.ppq_queue.proofs.Opened.{queue-opened, sound-opened, counted-opened, slot_sizes, err_holds, ok_holds}
+use Rattle.ppq_queue.proofs.Opened.{queue-opened, sound-opened, counted-opened, new_are_slots, err_holds, ok_holds}
 use Rattle.ppq_queue.proofs.queue.Queue.open.Goals as goal
 
-pub berth_slots-requires-clause-sizes : goal.berth_slots-requires-clause-sizes
-berth_slots-requires-clause-sizes g c =
+pub berth_slots-requires-clause-slots : goal.berth_slots-requires-clause-slots
+berth_slots-requires-clause-slots g c =
     let block : c.in-Ok-new.parts.store.supply.block ≡ c.args.sizes.block = ap (λ s. s.block) c.in-Ok-new.ensures.supply in
-    subst (λ b. All (λ s. (g.S.Slot.shown s).size ≡ b * g.R.Record.WIDTH) c.args.slots.items) (sym block) (slot_sizes g.S.Slot.shown (c.args.sizes.block * g.R.Record.WIDTH) c.args.slots.items c.requires.fresh)
+    subst (λ b. All (λ s. IsSlot (b * g.R.Record.WIDTH) (g.S.Slot.shown s)) c.args.slots.items) (sym block) (new_are_slots g.S.Slot.shown (c.args.sizes.block * g.R.Record.WIDTH) c.args.slots.items c.requires.fresh)
 
 pub returns-then-is_err-clause-back : goal.returns-then-is_err-clause-back
 returns-then-is_err-clause-back g c = err_holds c.berth_slots.result c.is_err.result c.is_err.ensures.value c.if-is_err.true c.berth_slots.ensures.back
@@ -30,7 +31,7 @@ invariant_of-result g c =
     let same = sym is.same_sizes in
     let room : c.args.sizes.blocks ≤ vec_capacity c.berth_slots.new.slots = omega (arith, c.berth_slots.ensures.capacity, c.requires.count, long) in (
       record {
-        queue = subst (λ n. IsQueue shown n parts.heaps parts.store.extract parts.store.body stock 0 0 None) same (queue-opened shown c.args.sizes parts is slots stock e c.requires.count c.workers-workers.ensures.range (omega (arith, c.in-Ok.ensures.budget)));
+        queue = subst (λ n. IsQueue shown n parts.heaps parts.store.extract parts.store.body stock 0 0 None) same (queue-opened shown c.args.sizes parts is slots stock e c.requires.count c.requires.fresh c.workers-workers.ensures.range (omega (arith, c.in-Ok.ensures.budget)));
         sound = λ none. subst (λ n. IsSound shown g.R.Ord.cmp g.R.Record.record_of g.R.Record.WIDTH n parts.heaps parts.store.extract parts.store.body stock parts.store.sources 0 0 false) same (sound-opened shown c.args.sizes parts is slots stock e c.requires.count g.R.Ord.cmp g.R.Record.record_of g.R.Record.WIDTH);
         counted = subst (λ n. IsCounted n.workers n.block (◌≡◌ {A = Option ℕ} None None) c.none.result (heaps_account shown parts.heaps (record parts.store { sizes = n; supply = stock }))) same
             (subst (λ t. IsCounted c.args.sizes.workers c.args.sizes.block (◌≡◌ {A = Option ℕ} None None) t (whole_account shown c.args.sizes (length (items_of parts.heaps)) parts.store.body stock)) (sym c.none.ensures)

@@ -1,10 +1,12 @@
 //! A slot whose contents contracts do not know.
-ghost use Rattle.std.specs.Prelude.{◌≡◌, None};
+ghost use Rattle.std.specs.Prelude.{◌≡◌, ◌≤◌, None};
+ghost use Rattle.ppq_outside.specs.Told.{next_count};
 
 use ppq_array::Berth;
 use ppq_outside::{Failed, Host, Slot};
-use ppq_record::{Memory, Pair};
+use ppq_record::Pair;
 use std::alloc::Global;
+use std::process::Abort;
 
 /// A slot of two pairs of which contracts know no contents, as of one over a real file.
 #[derive(Drop)]
@@ -31,6 +33,13 @@ impl QuietSlot {
             writes: 0,
             reads: 0,
         }
+    }
+
+    /// Says whether each call fails from now on.
+    pub fn set_broken(&mut self, broken: bool)
+        ensures { ⟦<QuietSlot as Slot>⟧.shown self.new ≡ ⟦<QuietSlot as Slot>⟧.shown self.old }
+    {
+        self.broken = broken;
     }
 }
 
@@ -84,14 +93,37 @@ impl Slot for QuietSlot {
     }
 }
 
-/// The slot with this number, in a box.
+/// The slot with this number, in a box. No call of it was made.
 pub fn quiet_berth(
+    rt: &impl Abort,
     alloc: Global,
     number: u32,
     broken: bool,
-) -> Result<Berth<QuietSlot, Pair>, Memory> {
+) -> Berth<QuietSlot, Pair>
+    ensures spent { (⟦<QuietSlot as Slot>⟧.shown result.slot).reads ≤ (⟦<QuietSlot as Slot>⟧.shown result.slot).writes }
+{
     match Berth::new(alloc, QuietSlot::new(number, broken)) {
-        Ok(berth) => Ok(berth),
-        Err((_slot, memory)) => Err(memory),
+        Ok(berth) => berth,
+        Err(_) => panic!(rt; "memory"),
+    }
+}
+
+/// The slot with this number, in a box, into which these bytes were written once; then each call of a broken one fails.
+pub fn written_berth<H: Host + Abort>(
+    rt: &H,
+    alloc: Global,
+    number: u32,
+    bytes: &[u8; 32],
+    broken: bool,
+) -> Berth<QuietSlot, Pair>
+    ensures spent { (⟦<QuietSlot as Slot>⟧.shown result.slot).reads ≤ (⟦<QuietSlot as Slot>⟧.shown result.slot).writes }
+    ensures unread { next_count (⟦<QuietSlot as Slot>⟧.shown result.slot).reads ≤ (⟦<QuietSlot as Slot>⟧.shown result.slot).writes }
+{
+    let mut slot = QuietSlot::new(number, false);
+    slot.write(rt, bytes).expect(rt, "a write");
+    slot.set_broken(broken);
+    match Berth::new(alloc, slot) {
+        Ok(berth) => berth,
+        Err(_) => panic!(rt; "memory"),
     }
 }
