@@ -1,10 +1,11 @@
 -- The row of a session has each block that is free.
-use Rattle.std.proofs.Common.{◌≡◌, ℕ, ◌+◌, ◌-◌, ◌*◌, ◌≤◌, List, length, Option, refl, sym, ap, ◌∙◌, arith, length-append}
+use Rattle.std.proofs.Common.{◌≡◌, ℕ, ◌+◌, ◌-◌, ◌*◌, ◌≤◌, List, length, Option, refl, sym, ap, ◌∙◌, subst, arith, length-append}
 use Rattle.std.specs.Prelude.{min}
 use Rattle.std.proofs.Math.Nat.{add-mul, mul-le-mul_right}
 use Rattle.std.specs.declared.cmp.Ordering.{Ordering}
+use Rattle.atomic_table.specs.Seated.{TableId}
 use Rattle.ppq_pass.specs.ppq_outside.Shown.{Shown}
-use Rattle.ppq_pass.specs.ppq_budget.Sizes.{pool_of, lane_buffers}
+use Rattle.ppq_pass.specs.ppq_budget.Sizes.{Numbers, AreInRange, heaps_of, batch_of, fixed_of, pool_of, lane_buffers}
 use Rattle.ppq_pass.specs.ppq_array.Owner.{slots_shown}
 use Rattle.ppq_pass.specs.ppq_array.Holdings.{internal_buffers, external_buffers, external_slots}
 use Rattle.ppq_pass.specs.ppq_fetch.Fetching.{blocks_in}
@@ -12,15 +13,21 @@ use Rattle.ppq_pass.proofs.ppq_spill.Keeping.{slots_long}
 use Rattle.ppq_pass.specs.ppq_pool.Seats.{count_of as pool_count}
 use Rattle.ppq_pass.specs.ppq_spill.Body.{held_by}
 use Rattle.ppq_queue.specs.Resting.{odd_in, slots_of}
+use Rattle.ppq_queue.proofs.Bounds.{resident_within}
 use Rattle.ppq_queue.proofs.Amounts.{runs_fit, arrays_fit, internal_count, stored_slots, count_some}
 use Rattle.ppq_queue.proofs.Odd.{arrays_full, odd_most}
 use Rattle.ppq_session.specs.Apart.{IsOut}
-use Rattle.ppq_session.specs.BulkSession.{HasBuffers, HasPool, RowHasFree}
+use Rattle.ppq_session.specs.BulkSession.{HasBuffers, HasPool, RowHasFree, resident_in}
 use Rattle.ppq_session.specs.Fronts.{RowHadFree}
 use Rattle.ppq_session.specs.FrontState.{IsTallied, front_holding}
 use Rattle.ppq_session.specs.State.{IsBulk, bulk_holding}
 use Rattle.ppq_session.specs.declared.parts.BulkParts.{BulkParts}
 use Rattle.ppq_session.proofs.Opening.{bare_slots}
+
+-- with all buffers of the budget, all that counts is within it
+pub resident_fits : (n : Numbers) → AreInRange n → fixed_of n ≤ n.memory → (owned : ℕ) (pool : TableId) → HasBuffers n owned pool → resident_in n owned pool ≤ n.memory
+resident_fits n range budget owned pool all =
+    subst (λ k. heaps_of n + batch_of n + n.blocks + 2 * batch_of n + k * n.block ≤ n.memory) (sym all) (resident_within n range budget (heaps_of n) (batch_of n) n.blocks (omega arith) (omega arith) (omega arith))
 
 module _ {S R : Type 0} (shown : S → Shown) (cmp : R → R → Ordering) (record_of : List ℕ → R) (width : ℕ) (q : BulkParts S R) (is : IsBulk shown cmp record_of width q) where
   pub bulk-row : RowHasFree shown (bulk_holding shown record_of width q)
@@ -63,6 +70,9 @@ module _ {S R : Type 0} (shown : S → Shown) (cmp : R → R → Ordering) (reco
 
   pub bulk-buffers : HasBuffers q.sizes (internal_buffers q.body.runs.internal.items + external_buffers q.body.runs.external.items + length q.body.lanes.idle) q.pool_seat.pool
   bulk-buffers = let out = is.apart.out in omega (arith, out.held, ap length out.no_job, is.supply.sure, out.pool)
+
+  pub bulk-memory : resident_in q.sizes (internal_buffers q.body.runs.internal.items + external_buffers q.body.runs.external.items + length q.body.lanes.idle) q.pool_seat.pool ≤ q.sizes.memory
+  bulk-memory = let home = is.apart.out.home in resident_fits q.sizes home.range home.budget _ q.pool_seat.pool bulk-buffers
 
   pub bulk-pool : HasPool q.sizes (internal_buffers q.body.runs.internal.items) q.pool_seat.pool
   bulk-pool = omega (arith, bulk-buffers, is.sound.buffers)

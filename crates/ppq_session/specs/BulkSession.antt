@@ -3,7 +3,7 @@ use Rattle.std.specs.Prelude.{◌≡◌, ℕ, ◌+◌, ◌-◌, ◌*◌, Bool, f
 use Rattle.atomic_table.specs.Seated.{TableId}
 use Rattle.ppq_pass.specs.ppq_record.Bag.{IsSameBag}
 use Rattle.ppq_pass.specs.ppq_outside.Shown.{Shown, AllTell}
-use Rattle.ppq_pass.specs.ppq_budget.Sizes.{Numbers, pool_of, lane_buffers}
+use Rattle.ppq_pass.specs.ppq_budget.Sizes.{Numbers, heaps_of, batch_of, pool_of, lane_buffers}
 use Rattle.ppq_pass.specs.ppq_counts.Tally.{Tally}
 use Rattle.ppq_pass.specs.ppq_array.declared.berth.DeviceBlock.{DeviceBlock}
 use Rattle.ppq_pass.specs.ppq_array.Owner.{slots_shown}
@@ -42,6 +42,12 @@ pub record BulkHolding (S R : Type 0) : Type 0 where
 -- written from and merged by, and those of the pool
 abbrev pub HasBuffers : Numbers → ℕ → TableId → Type 0
 HasBuffers sizes owned pool = owned + 2 * sizes.workers + count_of pool ≡ lane_buffers sizes + pool_of sizes
+
+-- The records that count against the budget while a session goes on: a full heap for each pass; the extract buffer, a batch that is dealt and
+-- one that is given out, all counted as full; the first record of each block of the device; and a block for each buffer, so many of which are
+-- at the owner, two at each pass, and the others in the pool
+abbrev pub resident_in : Numbers → ℕ → TableId → ℕ
+resident_in sizes owned pool = heaps_of sizes + batch_of sizes + sizes.blocks + 2 * batch_of sizes + (owned + 2 * sizes.workers + count_of pool) * sizes.block
 
 -- the pool has all buffers of the budget's pool but those of the runs in buffers
 abbrev pub HasPool : Numbers → ℕ → TableId → Type 0

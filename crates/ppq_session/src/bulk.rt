@@ -1,7 +1,7 @@
 //! What the owner of a queue keeps while a session is on.
-ghost use Rattle.std.specs.Prelude.{◌≡◌};
+ghost use Rattle.std.specs.Prelude.{◌≡◌, ◌≤◌};
 ghost use Rattle.ppq_pass.specs.ppq_budget.Sizes.{AreInRange};
-ghost use Rattle.ppq_session.specs.BulkSession.{HasBuffers, HasPool, RowHasFree};
+ghost use Rattle.ppq_session.specs.BulkSession.{HasBuffers, HasPool, RowHasFree, resident_in};
 ghost use Rattle.ppq_session.specs.State.{bulk_holding, IsBulk};
 
 use crate::parts::BulkParts;
@@ -52,6 +52,7 @@ impl<S: Slot + Send + Sync, R: Record + Send + Sync> Bulk<S, R> {
         ensures row { RowHasFree S.shown self.now }
         ensures buffers { HasBuffers self.now.sizes self.now.buffers self.now.pool }
         ensures pool { HasPool self.now.sizes self.now.run_buffers self.now.pool }
+        ensures memory { resident_in self.now.sizes self.now.buffers self.now.pool ≤ self.now.sizes.memory }
     {
         let _count = self.parts.count;
     }

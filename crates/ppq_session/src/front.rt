@@ -6,7 +6,7 @@ ghost use Rattle.ppq_pass.specs.ppq_outside.Shown.{AllTell};
 ghost use Rattle.ppq_pass.specs.ppq_array.Kept.{SameSlots, HasFailed, AreQuiet, all_writes};
 ghost use Rattle.ppq_pass.specs.ppq_array.Owner.{slots_shown};
 ghost use Rattle.ppq_pass.specs.ppq_array.declared.store_fault.StoreFault.TheVariants.{Device};
-ghost use Rattle.ppq_session.specs.BulkSession.{HasBuffers};
+ghost use Rattle.ppq_session.specs.BulkSession.{HasBuffers, resident_in};
 ghost use Rattle.ppq_session.specs.Fronts.{least_below, without_least_below, number_in, IsReady, IsReadied, IsFrontRefusal, RefillKeeps, RowHadFree, TakesLeast};
 ghost use Rattle.ppq_session.specs.FrontState.{IsTakenApart, front_holding};
 ghost use Rattle.ppq_session.specs.State.{IsAllInRuns};
@@ -182,6 +182,7 @@ impl<S: Slot + Send + Sync, R: Record + Send + Sync> Front<S, R> {
         ensures slots { length self.now.slots ≡ self.now.sizes.blocks }
         ensures items { AllTell self.now.slots → AllTell (slots_shown S.shown self.now.items) }
         ensures buffers { HasBuffers self.now.sizes self.now.buffers self.now.pool }
+        ensures memory { resident_in self.now.sizes self.now.buffers self.now.pool ≤ self.now.sizes.memory }
         ensures row { RowHadFree S.shown self.now }
         ensures peak { self.now.size + self.now.popped ≤ self.now.peak }
         ensures failed { (number : ℕ) → self.now.failed ≡ Some number → HasFailed number self.now.slots }

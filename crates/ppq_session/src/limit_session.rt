@@ -10,7 +10,7 @@ ghost use Rattle.ppq_session.specs.Asks.{answers_to, left_after, removed_in, pop
 ghost use Rattle.ppq_session.specs.Batches.{passes_of};
 ghost use Rattle.ppq_session.specs.Sessions.{IsUnbegun};
 ghost use Rattle.ppq_session.specs.Readied.{MemoryLeavesLimitReady};
-ghost use Rattle.ppq_session.specs.BulkSession.{HasBuffers};
+ghost use Rattle.ppq_session.specs.BulkSession.{HasBuffers, resident_in};
 ghost use Rattle.ppq_session.specs.Fronts.{RowHadFree};
 ghost use Rattle.ppq_session.specs.LimitSessions.{AreGoing, HasStopped, InLimits, IsOver, IsOverBy, begun_in};
 
@@ -180,11 +180,13 @@ impl<S: Slot + Send + Sync, R: Record + Send + Sync> LimitSession<S, R> {
     ///
     /// All blocks that no run had when the session began are in the row from which its passes draw (`row`). Those
     /// that the front frees stay with it until the session ends. All buffers of the budget are with the front, in
-    /// the pool, or two with each pass (`buffers`).
+    /// the pool, or two with each pass (`buffers`); with full heaps and all else that counts they are within it
+    /// (`memory`).
     #[inline]
     pub fn known(&self)
         ensures row { RowHadFree S.shown self.now.front }
         ensures buffers { HasBuffers self.now.front.sizes self.now.front.buffers self.now.front.pool }
+        ensures memory { resident_in self.now.front.sizes self.now.front.buffers self.now.front.pool ≤ self.now.front.sizes.memory }
     {
         self.front.known();
     }

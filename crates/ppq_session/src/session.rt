@@ -1,12 +1,12 @@
 //! An open bulk session, as one value.
-ghost use Rattle.std.specs.Prelude.{◌≡◌, ◌<◌, ◌++◌, ◌↔◌, [], ℕ, List, All, Any, Some, None, Err, IsTrue, false, IfOk, IfErr, OnOk, length};
+ghost use Rattle.std.specs.Prelude.{◌≡◌, ◌≤◌, ◌<◌, ◌++◌, ◌↔◌, [], ℕ, List, All, Any, Some, None, Err, IsTrue, false, IfOk, IfErr, OnOk, length};
 ghost use Rattle.ppq_queue.specs.Holding.{Holding, session_begun};
 ghost use Rattle.ppq_session.specs.declared.fault.BeginFault.TheVariants.{Device};
 ghost use Rattle.ppq_session.specs.Ends.{NamesFirst};
 ghost use Rattle.ppq_session.specs.Dealing.{IsGoing, HasEnded, EachAdds, records_in, records_for, part_for};
 ghost use Rattle.ppq_session.specs.Sessions.{InSession, IsLoaded, IsLeftBy, IsUnbegun};
 ghost use Rattle.ppq_session.specs.Readied.{MemoryLeavesBulkReady};
-ghost use Rattle.ppq_session.specs.BulkSession.{HasBuffers, HasPool, RowHasFree};
+ghost use Rattle.ppq_session.specs.BulkSession.{HasBuffers, HasPool, RowHasFree, resident_in};
 
 use crate::begin::bulk_begin;
 use crate::dealing::deal;
@@ -145,12 +145,14 @@ impl<S: Slot + Send + Sync, R: Record + Send + Sync> Session<S, R> {
     ///
     /// All blocks that no run of the queue has are in the row from which its passes draw (`row`), so no block is
     /// free and out of their reach. All buffers that no run of the queue has are in the pool (`pool`), with those
-    /// that stay with the queue and two for each pass they are those of the budget (`buffers`).
+    /// that stay with the queue and two for each pass they are those of the budget (`buffers`). With full heaps and
+    /// all else that counts they are within it (`memory`).
     #[inline]
     pub fn known(&self)
         ensures row { RowHasFree S.shown self.now.bulk }
         ensures buffers { HasBuffers self.now.bulk.sizes self.now.bulk.buffers self.now.bulk.pool }
         ensures pool { HasPool self.now.bulk.sizes self.now.bulk.run_buffers self.now.bulk.pool }
+        ensures memory { resident_in self.now.bulk.sizes self.now.bulk.buffers self.now.bulk.pool ≤ self.now.bulk.sizes.memory }
     {
         self.bulk.known();
     }
