@@ -4,12 +4,15 @@
     tools/build.py PROGRAM..
 
 PROGRAM is the crate of a program. A crate is proved once those that it uses are, side by side with others that wait for nobody
-either, and first those with the longest chain of others behind them; one that is alone gets all processors. Standard error says
-which are done. It ends with 125 if a crate is not proved or a program not built, and with 130 if it is interrupted.
+either, and first those with the longest chain of others behind them; one that is alone gets all processors. Two `rt` that work in
+one folder of a crate wait for each other, and each works in the folders of all crates below; so each crate is proved in one of
+some copies of the sources, and then taken over here, which takes a second. Standard error says which are done. It ends with 125 if
+a crate is not proved or a program not built, and with 130 if it is interrupted; what was proved until then stays.
 """
 import collections
 import os
 import pathlib
+import shutil
 import signal
 import subprocess
 import sys
@@ -78,6 +81,7 @@ class Build:
         self.names = [it for it in closure(programs, self.lists) if it not in programs]
         self.behind = chains(self.names, self.lists)
         self.done, self.running = [], {}
+        self.copies, self.free = 0, []
         self.begun, self.folder = time.monotonic(), tempfile.TemporaryDirectory()
         self.text = "the programs are proved and built, which takes about an hour the first time"
 
@@ -90,11 +94,23 @@ class Build:
         elif is_new:
             os.write(2, f"{line}\n".encode())
 
-    def start(self, name, words, jobs):
+    def copy(self):
+        """Returns a copy of the sources in which no rt works."""
+        if self.free:
+            return self.free.pop()
+        self.copies += 1
+        top = pathlib.Path(self.folder.name, f"copy-{self.copies}")
+        shutil.copytree(CRATES, top / "crates", symlinks=True, ignore=shutil.ignore_patterns("out", "must-fail"))
+        for name in ("crates.txt", "HANDLES"):
+            if (TOP / name).exists():
+                shutil.copy(TOP / name, top)
+        return top
+
+    def start(self, name, words, jobs, top=TOP):
         """Starts rt in the folder of a crate; what it writes goes to a file."""
         with open(f"{self.folder.name}/{name}", "wb") as log:
-            process = subprocess.Popen(["rt", *words], cwd=CRATES / name, stdin=subprocess.DEVNULL, stdout=log, stderr=log, start_new_session=True)
-        self.running[name] = process, jobs
+            process = subprocess.Popen(["rt", *words], cwd=top / "crates" / name, stdin=subprocess.DEVNULL, stdout=log, stderr=log, start_new_session=True)
+        self.running[name] = process, jobs, top
 
     def said(self, name):
         """Returns what rt wrote of a crate."""
@@ -114,20 +130,30 @@ class Build:
         """Starts as many crates as there are jobs for; one gets the jobs that no other is ready for."""
         ready = self.ready()
         for place, name in enumerate(ready):
-            idle = most - sum(jobs for _, jobs in self.running.values())
+            idle = most - sum(jobs for _, jobs, _ in self.running.values())
             if idle == 0:
                 return
             jobs = max(1, min(MOST_JOBS, idle // (len(ready) - place)))
-            self.start(name, ["lib", "--jobs", str(jobs)], jobs)
+            self.start(name, ["lib", "--jobs", str(jobs)], jobs, self.copy())
+
+    def take_over(self, name):
+        """Has a crate that was proved in a copy here too."""
+        self.start(name, ["lib"], 1)
+        if self.running[name][0].wait() != 0:
+            self.give_up(name)
+        del self.running[name]
 
     def wait(self):
         """Waits until a crate is proved, and says so."""
-        while not any(process.poll() is not None for process, _ in self.running.values()):
+        while not any(process.poll() is not None for process, _, _ in self.running.values()):
             time.sleep(0.2)
             self.say()
-        for name in [it for it, (process, _) in self.running.items() if process.poll() is not None]:
-            if self.running.pop(name)[0].returncode != 0:
+        for name in [it for it, (process, _, _) in self.running.items() if process.poll() is not None]:
+            process, _, top = self.running.pop(name)
+            if process.returncode != 0:
                 self.give_up(name)
+            self.free.append(top)
+            self.take_over(name)
             self.done.append(name)
             self.say(f"{len(self.done)} of {len(self.names)} crates are proved, {name} the last")
 
@@ -155,7 +181,7 @@ class Build:
 
     def stop(self):
         """Ends what still runs."""
-        for process, _ in self.running.values():
+        for process, _, _ in self.running.values():
             if process.poll() is None:
                 os.killpg(process.pid, signal.SIGTERM)
                 process.wait()

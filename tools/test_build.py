@@ -20,13 +20,15 @@ app: high
 other_app: low
 alone: low
 """
-# It notes when it begins and ends, makes what the crate has, and fails in the crate that the file `fails` names.
+# It notes when it begins and ends, and whether it works in the folder itself or in a copy, makes what the crate has, and fails in the
+# crate that the file `fails` names.
 RT = """#!/bin/sh
 name=$(basename "$PWD")
-echo "begin $name $*" >> {top}/calls
+case "$PWD" in {top}/*) at=here;; *) at=copy;; esac
+echo "begin $name $at $*" >> {top}/calls
 sleep 0.1
 [ ! -f {top}/slow ] || sleep 20
-echo "end $name" >> {top}/calls
+echo "end $name $at" >> {top}/calls
 if [ "$1" = run ]; then mkdir -p out; touch "out/$name"; echo "$(echo $name | tr _ -): usage: words" >&2; exit 2; fi
 if [ "$(cat {top}/fails 2> /dev/null)" = "$name" ]; then echo "$name has a hole"; exit 1; fi
 """
@@ -59,14 +61,24 @@ class Build(unittest.TestCase):
         status, printed, said = self.call()
         self.assertEqual((status, printed), (0, ""), said)
         calls = self.calls()
-        begun = {it.split()[1]: place for place, it in enumerate(calls) if it.startswith("begin")}
-        ended = {it.split()[1]: place for place, it in enumerate(calls) if it.startswith("end")}
-        self.assertEqual(begun.keys(), {"low", "side", "mid", "high", "app", "other_app"})
-        self.assertEqual(len(calls), 12)
-        for name, below in (("mid", "low"), ("high", "mid"), ("high", "side"), ("app", "high"), ("other_app", "low")):
-            self.assertLess(ended[below], begun[name])
-        self.assertIn("begin app run", calls)
+        begun = {tuple(it.split()[1:3]): place for place, it in enumerate(calls) if it.startswith("begin")}
+        ended = {tuple(it.split()[1:3]): place for place, it in enumerate(calls) if it.startswith("end")}
+        proved = {(name, at) for name in ("low", "side", "mid", "high") for at in ("copy", "here")}
+        self.assertEqual(begun.keys(), proved | {("app", "here"), ("other_app", "here")})
+        self.assertEqual(len(calls), 20)
+        for name in ("low", "side", "mid", "high"):
+            self.assertLess(ended[name, "copy"], begun[name, "here"])
+        for name, below in (("mid", "low"), ("high", "mid"), ("high", "side")):
+            self.assertLess(ended[below, "here"], begun[name, "copy"])
+        for name, below in (("app", "high"), ("other_app", "low")):
+            self.assertLess(ended[below, "here"], begun[name, "here"])
+        self.assertIn("begin app here run", calls)
         self.assertRegex(said, "4 of 4 crates are proved, high the last, 0 min\nppq: all is proved; app is linked")
+
+    @unittest.skipIf(len(os.sched_getaffinity(0)) < 2, "one processor")
+    def test_proves_crates_that_wait_for_nobody_side_by_side(self):
+        self.call()
+        self.assertEqual([it.split()[0] for it in self.calls()[:2]], ["begin", "begin"])
 
     def test_says_what_a_crate_that_fails_said(self):
         (self.top / "fails").write_text("mid")
