@@ -82,7 +82,10 @@ class Build:
         self.behind = chains(self.names, self.lists)
         self.done, self.running = [], {}
         self.copies, self.free = 0, []
-        self.begun, self.folder = time.monotonic(), tempfile.TemporaryDirectory()
+        # (on the disk of the repository, since a copy grows to some gigabytes, and where no rt looks for crates)
+        out = CRATES / programs[0] / "out"
+        out.mkdir(exist_ok=True)
+        self.begun, self.folder = time.monotonic(), tempfile.TemporaryDirectory(prefix="build-", dir=out)
         self.text = "the programs are proved and built, which takes about an hour the first time"
 
     def say(self, text=None):

@@ -24,7 +24,7 @@ alone: low
 # crate that the file `fails` names.
 RT = """#!/bin/sh
 name=$(basename "$PWD")
-case "$PWD" in {top}/*) at=here;; *) at=copy;; esac
+case "$PWD" in */build-*) at=copy;; *) at=here;; esac
 echo "begin $name $at $*" >> {top}/calls
 sleep 0.1
 [ ! -f {top}/slow ] || sleep 20
