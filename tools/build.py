@@ -3,9 +3,8 @@
 
     tools/build.py PROGRAM..
 
-PROGRAM is the crate of a program. A crate is proved once those that it uses are, side by side with others that wait for nobody
-either, and first those with the longest chain of others behind them; one that is alone gets all processors. Two `rt` that work in
-one folder of a crate wait for each other, and each works in the folders of all crates below; so each crate is proved in one of
+PROGRAM is the crate of a program. A crate is proved once those that it uses are. That with the longest chain of others behind it
+gets all processors, and others that wait for nobody are proved beside it with what it leaves. Two `rt` that work in one folder of a crate wait for each other, and each works in the folders of all crates below; so each crate is proved in one of
 some copies of the sources, and then taken over here, which takes a second. Standard error says which are done. It ends with 125 if
 a crate is not proved or a program not built, and with 130 if it is interrupted; what was proved until then stays.
 """
@@ -21,7 +20,7 @@ import time
 
 TOP = pathlib.Path(__file__).resolve().parent.parent
 CRATES = TOP / "crates"
-MEMORY_OF_A_JOB = 3_000_000  # KiB that the proof of a crate takes at most, or nearly, and not quite as much for each job more
+MEMORY_OF_A_CRATE, MEMORY_OF_A_JOB = 3_000_000, 1_200_000  # KiB that a proof takes at most, or nearly, and for each job more
 MOST_JOBS = 4  # of one crate
 NOT_BUILT, INTERRUPTED = 125, 130
 ENDING = (signal.SIGHUP, signal.SIGINT, signal.SIGTERM)
@@ -66,10 +65,15 @@ def chains(names, lists):
 
 
 def lanes():
-    """Returns how many jobs run at once: one a processor, as many as memory holds."""
+    """Returns how many jobs the crate with the longest chain behind it gets, and how many others run beside it: one a processor each,
+    as many as memory holds."""
     with open("/proc/meminfo") as file:
         free = next(int(it.split()[1]) for it in file if it.startswith("MemAvailable:"))
-    return max(1, min(len(os.sched_getaffinity(0)), free // MEMORY_OF_A_JOB))
+    processors = len(os.sched_getaffinity(0))
+    more = max(0, min(MOST_JOBS, processors) - 1)
+    jobs = 1 + max(0, min(more, (free - MEMORY_OF_A_CRATE) // MEMORY_OF_A_JOB))
+    left = free - MEMORY_OF_A_CRATE - (jobs - 1) * MEMORY_OF_A_JOB
+    return jobs, max(0, min(processors - 1, left // MEMORY_OF_A_CRATE))
 
 
 class Build:
@@ -109,11 +113,11 @@ class Build:
                 shutil.copy(TOP / name, top)
         return top
 
-    def start(self, name, words, jobs, top=TOP):
-        """Starts rt in the folder of a crate; what it writes goes to a file."""
+    def start(self, name, command, top=TOP):
+        """Starts a command of rt in the folder of a crate; what it writes goes to a file."""
         with open(f"{self.folder.name}/{name}", "wb") as log:
-            process = subprocess.Popen(["rt", *words], cwd=top / "crates" / name, stdin=subprocess.DEVNULL, stdout=log, stderr=log, start_new_session=True)
-        self.running[name] = process, jobs, top
+            process = subprocess.Popen(command, cwd=top / "crates" / name, stdin=subprocess.DEVNULL, stdout=log, stderr=log, start_new_session=True)
+        self.running[name] = process, top
 
     def said(self, name):
         """Returns what rt wrote of a crate."""
@@ -129,30 +133,29 @@ class Build:
         waiting = [it for it in self.names if it not in self.running and it not in self.done]
         return sorted((it for it in waiting if all(below in self.done for below in self.lists[it])), key=lambda it: -self.behind[it])
 
-    def start_ready(self, most):
-        """Starts as many crates as there are jobs for; one gets the jobs that no other is ready for."""
-        ready = self.ready()
-        for place, name in enumerate(ready):
-            idle = most - sum(jobs for _, jobs, _ in self.running.values())
-            if idle == 0:
-                return
-            jobs = max(1, min(MOST_JOBS, idle // (len(ready) - place)))
-            self.start(name, ["lib", "--jobs", str(jobs)], jobs, self.copy())
+    def start_ready(self, jobs, beside):
+        """Starts a crate that has a longer chain behind it than all that run, with so many jobs; and up to so many beside it, with one
+        job each, which get a processor where it leaves one."""
+        for name in self.ready():
+            if all(self.behind[name] > self.behind[it] for it in self.running):
+                self.start(name, ["rt", "lib", "--jobs", str(jobs)], self.copy())
+            elif len(self.running) <= beside:
+                self.start(name, ["nice", "-n", "10", "rt", "lib", "--jobs", "1"], self.copy())
 
     def take_over(self, name):
         """Has a crate that was proved in a copy here too."""
-        self.start(name, ["lib"], 1)
+        self.start(name, ["rt", "lib"])
         if self.running[name][0].wait() != 0:
             self.give_up(name)
         del self.running[name]
 
     def wait(self):
         """Waits until a crate is proved, and says so."""
-        while not any(process.poll() is not None for process, _, _ in self.running.values()):
+        while not any(process.poll() is not None for process, _ in self.running.values()):
             time.sleep(0.2)
             self.say()
-        for name in [it for it, (process, _, _) in self.running.items() if process.poll() is not None]:
-            process, _, top = self.running.pop(name)
+        for name in [it for it, (process, _) in self.running.items() if process.poll() is not None]:
+            process, top = self.running.pop(name)
             if process.returncode != 0:
                 self.give_up(name)
             self.free.append(top)
@@ -163,7 +166,7 @@ class Build:
     def link(self, name):
         """Links a program and runs it. Without words it prints its usage and ends with 2, which shows that it was built."""
         self.say(f"all is proved; {name} is linked")
-        self.start(name, ["run"], 1)
+        self.start(name, ["rt", "run"])
         status = self.running[name][0].wait()
         del self.running[name]
         usage = f"{name.replace('_', '-')}: usage: ".encode()
@@ -172,9 +175,9 @@ class Build:
 
     def run(self):
         self.say(self.text)
-        most = lanes()
+        jobs, beside = lanes()
         while len(self.done) < len(self.names):
-            self.start_ready(most)
+            self.start_ready(jobs, beside)
             self.wait()
         for name in self.programs:
             self.link(name)
@@ -184,7 +187,7 @@ class Build:
 
     def stop(self):
         """Ends what still runs."""
-        for process, _, _ in self.running.values():
+        for process, _ in self.running.values():
             if process.poll() is None:
                 os.killpg(process.pid, signal.SIGTERM)
                 process.wait()
