@@ -1,5 +1,5 @@
 //! The extract buffer.
-ghost use Rattle.std.specs.Prelude.{◌≡◌, ◌+◌, ◌≤◌, ◌↔◌, ℕ, [], min, length, drop, vec_capacity, Option, None, IsTrue, IfOk, OnOk, OnErr, IsErrOf};
+ghost use Rattle.std.specs.Prelude.{◌≡◌, ◌+◌, ◌<◌, ◌≤◌, ◌↔◌, ℕ, [], min, length, drop, vec_capacity, Option, None, IsTrue, IfOk, OnOk, OnErr, IsErrOf};
 ghost use Rattle.ppq_fetch.specs.ppq_record.Bag.{front, first_of};
 ghost use Rattle.ppq_budget.specs.Sizes.{batch_of};
 ghost use Rattle.ppq_fetch.specs.Taking.{wanted};
@@ -15,6 +15,7 @@ use ppq_fetch::{
 };
 use std::alloc::Global;
 use std::marker::Model;
+use std::mem::replace;
 
 /// Records in ascending order that leave at the front. Contracts see those that are left, and how many
 /// there is room for.
@@ -120,6 +121,40 @@ impl<R: Record> Extract<R> {
         ensures { self.new ≡ held [] self.old.room }
     {
         self.from = self.to;
+    }
+
+    /// Hands out its list, cut to so many records, to a merge that writes over it. From here until
+    /// `take_back` there is no room. It does not allocate.
+    pub fn lend(&mut self, count: usize) -> Vec<R>
+        requires empty { self.old.items ≡ [] }
+        requires room { count ≤ self.old.room }
+        ensures lent { self.new ≡ held [] 0 }
+        ensures count { length result.items ≡ count }
+        ensures room { self.old.room ≤ vec_capacity result }
+    {
+        let alloc = *self.records.allocator();
+        let mut list = replace(&mut self.records, Vec::new(alloc));
+        list.truncate(count);
+        self.from = 0;
+        self.to = 0;
+        list
+    }
+
+    /// Takes a list as its own, with room for so many records. It does not allocate, and costs a write over
+    /// the records that were cut off.
+    pub fn take_back(&mut self, list: Vec<R>, room: usize)
+        requires some { 0 < length list.items }
+        requires room { room ≤ vec_capacity list }
+        ensures { self.new ≡ held [] room }
+    {
+        let mut list = list;
+        let any = list[0];
+        match list.resize(room, any) {
+            Ok(()) => self.records = list,
+            Err(_) => unreachable!(),
+        }
+        self.from = 0;
+        self.to = 0;
     }
 
     /// Takes the smallest records of all runs into the buffer, as many as there is room for, or all there

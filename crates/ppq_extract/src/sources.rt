@@ -4,11 +4,11 @@ ghost use Rattle.ppq_budget.specs.Sizes.{fixed_of, pool_of};
 ghost use Rattle.ppq_extract.specs.Extracted.{ServesFor};
 
 use ppq_budget::{FAN, MOST_RUNS, Sizes};
-use ppq_fetch::{Bench, Memory, Record, record_laws};
+use ppq_fetch::{Bench, Memory, Record};
 use std::alloc::Global;
 
 /// The bench of the workers, and a place for each run, for the merges of refills. Other merges may use
-/// the bench between refills; and what a second merge of a level needs that runs beside one of them.
+/// the bench between refills; and the bench of a second merge of a level that runs beside one of them.
 #[derive(Drop)]
 pub struct Sources<R: Record> {
     /// What merges by all workers need.
@@ -17,8 +17,6 @@ pub struct Sources<R: Record> {
     pub places: Vec<u64>,
     /// What a merge of 8 runs by one worker needs.
     pub second: Bench<R>,
-    /// A block of records that such a merge writes over.
-    pub batch: Vec<R>,
 }
 
 impl<R: Record> Sources<R> {
@@ -29,7 +27,6 @@ impl<R: Record> Sources<R> {
         ensures workers { IfOk result (λ s. s.bench.workers ≡ sizes.now.workers) }
         ensures runs { IfOk result (λ s. ServesFor (pool_of sizes.now + 65) s) }
     {
-        record_laws::<R>();
         let runs = match sizes.pool() {
             Ok(pool) => pool + MOST_RUNS + 1,
             Err(_) => unreachable!(),
@@ -37,13 +34,10 @@ impl<R: Record> Sources<R> {
         let bench = Bench::new(alloc, sizes.workers(), runs)?;
         let places = vec![in alloc; 0; runs as usize]?;
         let second = Bench::new(alloc, 1, FAN)?;
-        let zeros = vec![in alloc; 0; R::WIDTH]?;
-        let batch = vec![in alloc; R::take(&zeros); sizes.block() as usize]?;
         Ok(Sources {
             bench,
             places,
             second,
-            batch,
         })
     }
 }

@@ -48,14 +48,15 @@ module _ {S R : Type 0} where
     pub few : length store.body.runs.external.items ≤ 64
     pub idle : pool_of store.sizes ≤ 2 * store.supply.sure_buffers
 
-  -- two merges of a level may be made side by side: both are due, nothing is loaded, there is a worker for each, and what the second needs
+  -- two merges of a level may be made side by side: both are due, nothing is loaded, there is a worker for each, and what the second needs: a bench, and
+  -- the extract buffer, in which no record is
   pub record MayMergeTwo (level : ℕ) (store : Store S R) : Type 0 where
     pub more : 16 < count_level level store.body.runs.external.items
     pub workers : 1 < store.sizes.workers
     pub none_loaded : external_buffers store.body.runs.external.items ≡ 0
     pub one : store.sources.second.workers ≡ 1
     pub places : 8 ≤ length store.sources.second.places
-    pub batch : length store.sources.batch.items ≡ store.sizes.block
+    pub no_extract : store.extract.items ≡ []
 
   -- how many records the extract buffer and the runs have
   abbrev pub stored : Store S R → ℕ

@@ -85,7 +85,8 @@ impl<S: Slot + Send + Sync, R: Record + Send + Sync> Store<S, R> {
     }
 
     // Whether two merges of a level can be made side by side: both are due, no block is loaded, there is a
-    // worker for each, and the second has a bench and a batch.
+    // worker for each, the second has a bench, and no record is in the extract buffer, over which it
+    // writes.
     fn may_pair(&self, level: u32) -> bool
         requires works { MayWork S.shown R.Ord.cmp R.record_of R.WIDTH self.now }
         ensures { result ≡ true → MayMergeTwo level self.now }
@@ -93,9 +94,9 @@ impl<S: Slot + Send + Sync, R: Record + Send + Sync> Store<S, R> {
         let arrays = self.body.runs.external.as_slice();
         let two = self.sizes.workers() > 1 && count_at(arrays, level) > 2 * FULL;
         let idle = two && count_loaded(arrays) == 0;
-        let Sources { second, batch, .. } = &self.sources;
+        let second = &self.sources.second;
         let able = second.workers() == 1 && second.runs() >= FAN;
-        idle && able && batch.len() == self.sizes.block() as usize
+        idle && able && self.extract.is_empty()
     }
 
     // Merges 16 runs of a level, 8 beside 8.
@@ -113,12 +114,8 @@ impl<S: Slot + Send + Sync, R: Record + Send + Sync> Store<S, R> {
         ensures leaves { LevelLeaves S.shown R.Ord.cmp R.record_of R.WIDTH level self.old self.new result }
         ensures fewer { OnOk result (length self.new.body.runs.external.items < length self.old.body.runs.external.items) }
     {
-        let Sources {
-            bench,
-            second,
-            batch,
-            ..
-        } = &mut self.sources;
+        let Sources { bench, second, .. } = &mut self.sources;
+        let mut list = self.extract.lend(self.sizes.block() as usize);
         let answer = merge_pair(
             rt,
             &mut self.body.runs.external,
@@ -127,9 +124,10 @@ impl<S: Slot + Send + Sync, R: Record + Send + Sync> Store<S, R> {
             &mut self.body.lanes,
             bench,
             second,
-            batch,
+            &mut list,
             gate,
         );
+        self.extract.take_back(list, self.sizes.batch() as usize);
         let _free = self.supply.free_slots();
         answer
     }

@@ -1,5 +1,6 @@
 //! Worked examples of refills. A number stands for the pair with that key and value 0.
-ghost use Rattle.std.specs.Prelude.{◌+◌, length, OnOk};
+ghost use Rattle.std.specs.Prelude.{◌≡◌, ◌+◌, length, OnOk};
+ghost use Rattle.ppq_extract.specs.ppq_budget.Sizes.{batch_of};
 ghost use Rattle.ppq_extract.specs.ppq_fetch.Fetching.{MayFetch};
 ghost use Rattle.ppq_extract.specs.Extracted.{sources_of, ServesFor};
 ghost use Rattle.ppq_extract.specs.Examples.{IsRunOfTwo, IsRunOfBlock};
@@ -58,7 +59,9 @@ fn run_of_block<H: Host + Abort>(
     run
 }
 
-fn sizes(rt: &impl Abort) -> Sizes {
+fn sizes(rt: &impl Abort) -> Sizes
+    ensures { batch_of result ≡ 4 }
+{
     Sizes::new(2, 2, 1, 1 << 20, 3).expect(rt, "sizes")
 }
 
@@ -82,7 +85,6 @@ fn three_runs<H: Host + Abort>(rt: &H, alloc: Global, broken: bool) -> World
             bench: Bench::new(alloc, 2, 3).expect(rt, "memory"),
             places: vec![in alloc; 0; 3].expect(rt, "memory"),
             second: Bench::new(alloc, 1, 8).expect(rt, "memory"),
-            batch: Vec::new(alloc),
         },
         owner: OwnerLists::new(2, 1, 2),
     }
@@ -122,6 +124,30 @@ fn gives_none(extract: &mut Extract<Pair>) -> bool {
 fn a_new_buffer_is_empty(rt: HostRuntime) {
     let made = Extract::<Pair>::new(rt.alloc(), &sizes(&rt));
     assert!(rt; gives_none(&mut made.expect(&rt, "memory")));
+}
+
+// Whether a buffer with room for four records lends a list of two, has no room meanwhile, and has its room again
+// once it took the list back.
+fn lends_and_takes_back<H: Host + Abort>(rt: &H, alloc: Global)
+where
+    H::Dir: Send,
+{
+    let mut extract = Extract::new(alloc, &sizes(rt)).expect(rt, "memory");
+    let mut list = extract.lend(2);
+    list[1] = pair(8);
+    assert!(rt; (list.len() == 2) & gives_none(&mut extract));
+    extract.take_back(list, 4);
+    let mut w = three_runs(rt, alloc, false);
+    w.extract = extract;
+    refill(rt, &mut w, None).expect(rt, "a refill");
+    let four = [pair(1), pair(2), pair(3), pair(5)];
+    assert!(rt; w.extract.rest() == four.as_slice());
+    end(w);
+}
+
+#[test]
+fn a_buffer_that_lent_its_list_is_refilled_whole(rt: HostRuntime) {
+    lends_and_takes_back(&rt, rt.alloc());
 }
 
 // Whether so many runs are in buffers and in blocks, and so many slots are free.

@@ -36,7 +36,7 @@ fault_of stock (Device number) never named = named number refl
 -- tools that are left as they were, twice
 pub SameTools-trans :
     {S R : Type 0} (a b c : Lanes (DeviceBlock S R) R) (n m k p q r : ℕ) → SameTools a b n m p q → SameTools b c m k q r → SameTools a c n k p r
-SameTools-trans a b c n m k p q r h i = record { jobs = i.jobs ∙ h.jobs; job_room = i.job_room ∙ h.job_room; batch = i.batch ∙ h.batch; workers = i.workers ∙ h.workers; same_places = i.same_places ∙ h.same_places }
+SameTools-trans a b c n m k p q r h i = record { jobs = i.jobs ∙ h.jobs; job_room = i.job_room ∙ h.job_room; batch = i.batch ∙ h.batch; batch_room = i.batch_room ∙ h.batch_room; workers = i.workers ∙ h.workers; same_places = i.same_places ∙ h.same_places }
 
 module _ {S R : Type 0} (cmp : R → R → Ordering) (record_of : List ℕ → R) (width workers : ℕ) (shown : S → Shown) where
   -- no slot was called besides

@@ -189,11 +189,12 @@ module _ {S R : Type 0} where
     pub bench : 8 ≤ places
     pub batch : most ≡ workers * t.hand.stock.block
 
-  -- what a merge uses is left as it was: jobs, room in the batch, workers, and places for runs
+  -- what a merge uses is left as it was: jobs, the batch's records and their room, workers, and places for runs
   pub record SameTools (old new : Lanes (DeviceBlock S R) R) (before now places places' : ℕ) : Type 0 where
     pub jobs : new.jobs.items ≡ old.jobs.items
     pub job_room : vec_capacity new.jobs ≡ vec_capacity old.jobs
     pub batch : length new.batch.items ≡ length old.batch.items
+    pub batch_room : vec_capacity new.batch ≡ vec_capacity old.batch
     pub workers : now ≡ before
     pub same_places : places' ≡ places
 

@@ -69,7 +69,7 @@ where
     ensures workers { bench.new.workers ≡ bench.old.workers }
     ensures bench { length bench.new.places ≡ length bench.old.places }
     ensures other { (other.new.workers ≡ other.old.workers) × (length other.new.places ≡ length other.old.places) }
-    ensures batch { length batch.new.items ≡ length batch.old.items }
+    ensures batch { (length batch.new.items ≡ length batch.old.items) × (vec_capacity batch.new ≡ vec_capacity batch.old) }
 {
     gather_level(arrays, level, 2 * TAKEN);
     let block = lanes.idle.at(0).block();

@@ -37,7 +37,7 @@ returns-in-Err-write_batch-clause-outcome g c =
     (rw c.deref.ensures.value at c.in-Err-write_batch.ensures.outcome) c.write_batch.ensures.idle
 
 pub returns-in-Ok-write_batch-clause-tools : goal.returns-in-Ok-write_batch-clause-tools
-returns-in-Ok-write_batch-clause-tools g c = let t = c.take_batch.ensures.tools in record { jobs = t.jobs; job_room = t.job_room; batch = t.batch; workers = t.workers; same_places = t.same_places }
+returns-in-Ok-write_batch-clause-tools g c = let t = c.take_batch.ensures.tools in record { jobs = t.jobs; job_room = t.job_room; batch = t.batch; batch_room = t.batch_room; workers = t.workers; same_places = t.same_places }
 
 pub returns-in-Err-write_batch-clause-tools : goal.returns-in-Err-write_batch-clause-tools
-returns-in-Err-write_batch-clause-tools g c = let t = c.take_batch.ensures.tools in record { jobs = t.jobs; job_room = t.job_room; batch = t.batch; workers = t.workers; same_places = t.same_places }
+returns-in-Err-write_batch-clause-tools g c = let t = c.take_batch.ensures.tools in record { jobs = t.jobs; job_room = t.job_room; batch = t.batch; batch_room = t.batch_room; workers = t.workers; same_places = t.same_places }

@@ -11,7 +11,7 @@ loop-last-init g c =
       merged = MergedOn-none g.R.Ord.cmp g.R.Record.record_of g.R.Record.WIDTH c.args.bench.now.workers g.S.Slot.shown (table_of c.args.inputs.now c.args.lanes.now c.args.making.now (g.P.Supply.stock c.args.supply.now)) c.requires.may.ready;
       end = λ e. absurd (omega (arith, e));
       home = refl;
-      tools = record { jobs = refl; job_room = refl; batch = refl; workers = refl; same_places = refl };
+      tools = record { jobs = refl; job_room = refl; batch = refl; batch_room = refl; workers = refl; same_places = refl };
     }
 
 pub merge_batch-requires-clause-may : goal.merge_batch-requires-clause-may

@@ -267,14 +267,14 @@ loop-count-preserved g c =
     let on = turn_next cmp b f w workers places most shown o l.inputs l.making.made l.making.berths l.lanes.idle stock l.lanes.batch.items l.count turn new.idle new.making.berths stock1 new.jobs.items staged done zip next.new.inputs next.new.lanes.idle stock2 parts.0 parts.1 (ranks c.record_laws.ensures.order) good next.new.lanes.batch.items answer (next.ensures.tools.batch ∙ i.tools.batch) took_ok in
     let idle = c.end_group.ensures.idle ∙ ap (λ js. next.new.lanes.idle ++ map buf_of js) whole in
     let array = c.in-None.ensures.array ∙ ap (λ js. appended new.making.made js) whole ∙ ap (λ a. appended a done) made in
-    let tools = SameTools-trans c.args.lanes.now l.lanes next.new.lanes workers l.bench.workers next.new.bench.workers places (length l.bench.places) (length next.new.bench.places) i.tools (record { jobs = next.ensures.tools.jobs; job_room = next.ensures.tools.job_room; batch = next.ensures.tools.batch; workers = next.ensures.tools.workers; same_places = next.ensures.tools.same_places }) in
+    let tools = SameTools-trans c.args.lanes.now l.lanes next.new.lanes workers l.bench.workers next.new.bench.workers places (length l.bench.places) (length next.new.bench.places) i.tools (record { jobs = next.ensures.tools.jobs; job_room = next.ensures.tools.job_room; batch = next.ensures.tools.batch; batch_room = next.ensures.tools.batch_room; workers = next.ensures.tools.workers; same_places = next.ensures.tools.same_places }) in
     record {
       turn = subst (λ bs. AtTurn cmp f w workers places most shown o next.new.inputs ended.made ended.berths bs stock2 next.new.lanes.batch.items answer) (sym idle)
           (subst (λ bs. AtTurn cmp f w workers places most shown o next.new.inputs ended.made bs (next.new.lanes.idle ++ map buf_of done) stock2 next.new.lanes.batch.items answer) (sym c.in-None.ensures.berths)
           (subst (λ m. AtTurn cmp f w workers places most shown o next.new.inputs m new.making.berths (next.new.lanes.idle ++ map buf_of done) stock2 next.new.lanes.batch.items answer) (sym array) on));
       few = omega (arith, i.few, staged.left, ap length c.in-None.ensures.berths);
       home = next.ensures.home ∙ c.stage.ensures.home ∙ i.home;
-      tools = record { jobs = tools.jobs; job_room = tools.job_room; batch = tools.batch; workers = tools.workers; same_places = tools.same_places };
+      tools = record { jobs = tools.jobs; job_room = tools.job_room; batch = tools.batch; batch_room = tools.batch_room; workers = tools.workers; same_places = tools.same_places };
       no_job = c.end_group.ensures.no_job;
       job_room = c.end_group.ensures.job_room ∙ c.stage.ensures.room ∙ i.job_room;
     }
