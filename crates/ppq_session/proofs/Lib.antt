@@ -20,6 +20,7 @@ pub mod FirstGathered
 pub mod Fits
 pub mod Fronted
 pub mod Gathered
+pub mod InRuns
 pub mod LimitSessions
 pub mod LineParts
 pub mod Mapped
@@ -37,4 +38,6 @@ pub mod Rows
 pub mod Sends
 pub mod Sessions
 pub mod ShortOfBlocks
+pub mod Stored
 pub mod Together
+pub mod Without

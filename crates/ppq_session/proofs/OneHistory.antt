@@ -20,6 +20,7 @@ use Rattle.ppq_pass.specs.ppq_row.Histories.{holder, draws_of}
 use Rattle.ppq_pass.specs.ppq_row.Rule.{counter}
 use Rattle.ppq_pass.specs.ppq_row.Shown.{shown, counted, StepsAreEvents as RowSteps}
 use Rattle.ppq_session.specs.OneHistory.{PoolState, RowState, PoolAndRow, Seating, draw_part, IsWith, buffers_of, MeetsRules, ShowsTogether, PoolStep, RowStep, Step, StatesShowOne, PoolPlays, RowPlays, PlaysAreSteps, EachStepShowsOne, AllStepsShowOne}
+use Rattle.ppq_session.proofs.Without.{draws_of_draw_part}
 
 pass_in : CorePlace → ℕ
 pass_in Free = 0
@@ -49,14 +50,6 @@ by_store true p q w same a = inr (ap Stored (same refl))
 by_store false p q w same a = a
 
 module _ {R : Type 0} where
-  draws_of_draw_part : (h : List (Event R)) → draws h ≡ draws (draw_part h)
-  draws_of_draw_part [] = refl
-  draws_of_draw_part (Take p b ∷ h) = draws_of_draw_part h
-  draws_of_draw_part (Give p b ∷ h) = draws_of_draw_part h
-  draws_of_draw_part (Draw p s ∷ h) = ap (λ (n : ℕ). n + 1) (draws_of_draw_part h)
-  draws_of_draw_part (Push p x ∷ h) = draws_of_draw_part h
-  draws_of_draw_part (Store p s ∷ h) = draws_of_draw_part h
-
   -- who drew a slot holds it, or has stored it
   stays_with : (n d k i p : ℕ) (h : List (Event R)) → IsLegal n d k h → slot_at i (draw_part h) ≡ Held p → IsWith p (slot_at i h)
   stays_with n d k i p [] l e = inl e

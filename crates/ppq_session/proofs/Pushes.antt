@@ -9,25 +9,25 @@ use Rattle.ppq_pass.proofs.ppq_record.Order.{count_by-append}
 use Rattle.ppq_pass.specs.ppq_outside.Shown.{Shown}
 use Rattle.ppq_pass.specs.ppq_core.declared.event.Event.{Event}
 use Rattle.ppq_pass.specs.ppq_core.declared.event.Event.TheVariants.{Take, Give, Draw, Push, Store}
-use Rattle.ppq_pass.specs.ppq_core.declared.place.Place.TheVariants.{Free, Held, Stored}
-use Rattle.ppq_pass.specs.ppq_core.History.{buffer_at, slot_at, draws, pushed_by, IsLegal}
+use Rattle.ppq_pass.specs.ppq_core.declared.place.Place.TheVariants.{Held, Stored}
+use Rattle.ppq_pass.specs.ppq_core.History.{buffer_at, slot_at, pushed_by, IsLegal}
 use Rattle.ppq_pass.specs.ppq_core.Parts.{buffer_part}
 use Rattle.ppq_pass.specs.Passed.{PassHolding, PassTells}
 use Rattle.ppq_session.specs.BulkSession.{bag_of}
 use Rattle.ppq_session.specs.Dealing.{IsGoing, HasEnded, HasNoFault, Adds}
 use Rattle.ppq_session.specs.OneHistory.{IsWith, buffers_of, draw_part}
-use Rattle.ppq_session.specs.Pushes.{without_pushes, ArePushesOf, pushed_from, HasPushed, PushesStandAnywhere, NothingIsPushed, GivenArePushed, PushedAreAdded}
+use Rattle.ppq_session.specs.Pushes.{is_no_push, without_pushes, ArePushesOf, pushed_from, HasPushed, PushesStandAnywhere, NothingIsPushed, GivenArePushed, PushedAreAdded}
 use Rattle.ppq_session.proofs.Adding.{going_or_ended}
+use Rattle.ppq_session.proofs.Without.{Keeps, filter-within, buffers-without, draws-without, buffer_part-without, draw_part-without}
 
 module _ {R : Type 0} where
-  -- all that is read off a history but its pushes is that of the history without them
-  buffers-without : (i : ℕ) (h : List (Event R)) → buffer_at i h ≡ buffer_at i (without_pushes h)
-  buffers-without i [] = refl
-  buffers-without i (Take p b ∷ h) = ap (λ w. cond (eqb b i) (Held p) w) (buffers-without i h)
-  buffers-without i (Give p b ∷ h) = ap (λ w. cond (eqb b i) Free w) (buffers-without i h)
-  buffers-without i (Draw p s ∷ h) = buffers-without i h
-  buffers-without i (Push p r ∷ h) = buffers-without i h
-  buffers-without i (Store p s ∷ h) = buffers-without i h
+  -- takes, gives and draws are no pushes
+  keeps : (e : Event R) → Keeps is_no_push e
+  keeps (Take p b) = record { at_buffer = λ _. refl; draw = λ _. refl }
+  keeps (Give p b) = record { at_buffer = λ _. refl; draw = λ _. refl }
+  keeps (Draw p s) = record { at_buffer = λ _. refl; draw = λ _. refl }
+  keeps (Push p r) = record { at_buffer = λ is. is; draw = λ is. is }
+  keeps (Store p s) = record { at_buffer = λ _. refl; draw = λ _. refl }
 
   slots-without : (i : ℕ) (h : List (Event R)) → slot_at i h ≡ slot_at i (without_pushes h)
   slots-without i [] = refl
@@ -37,56 +37,27 @@ module _ {R : Type 0} where
   slots-without i (Push p r ∷ h) = slots-without i h
   slots-without i (Store p s ∷ h) = ap (λ w. cond (eqb s i) (Stored p) w) (slots-without i h)
 
-  draws-without : (h : List (Event R)) → draws h ≡ draws (without_pushes h)
-  draws-without [] = refl
-  draws-without (Take p b ∷ h) = draws-without h
-  draws-without (Give p b ∷ h) = draws-without h
-  draws-without (Draw p s ∷ h) = ap (λ (n : ℕ). n + 1) (draws-without h)
-  draws-without (Push p r ∷ h) = draws-without h
-  draws-without (Store p s ∷ h) = draws-without h
-
-  buffer_part-without : (h : List (Event R)) → buffer_part h ≡ buffer_part (without_pushes h)
-  buffer_part-without [] = refl
-  buffer_part-without (Take p b ∷ h) = ap (λ k. Take p b ∷ k) (buffer_part-without h)
-  buffer_part-without (Give p b ∷ h) = ap (λ k. Give p b ∷ k) (buffer_part-without h)
-  buffer_part-without (Draw p s ∷ h) = buffer_part-without h
-  buffer_part-without (Push p r ∷ h) = buffer_part-without h
-  buffer_part-without (Store p s ∷ h) = buffer_part-without h
-
-  draw_part-without : (h : List (Event R)) → draw_part h ≡ draw_part (without_pushes h)
-  draw_part-without [] = refl
-  draw_part-without (Take p b ∷ h) = draw_part-without h
-  draw_part-without (Give p b ∷ h) = draw_part-without h
-  draw_part-without (Draw p s ∷ h) = ap (λ k. Draw p s ∷ k) (draw_part-without h)
-  draw_part-without (Push p r ∷ h) = draw_part-without h
-  draw_part-without (Store p s ∷ h) = draw_part-without h
-
   -- a legal history is legal without its pushes
   legal-without : (n d m : ℕ) (h : List (Event R)) → IsLegal n d m h → IsLegal n d m (without_pushes h)
   legal-without n d m [] l = tt
-  legal-without n d m (Take p b ∷ h) l = ((l.0.0, l.0.1, sym (buffers-without b h) ∙ l.0.2), legal-without n d m h l.1)
-  legal-without n d m (Give p b ∷ h) l = ((l.0.0, l.0.1, sym (buffers-without b h) ∙ l.0.2), legal-without n d m h l.1)
-  legal-without n d m (Draw p s ∷ h) l = ((l.0.0, l.0.1, l.0.2 ∙ draws-without h), legal-without n d m h l.1)
+  legal-without n d m (Take p b ∷ h) l = ((l.0.0, l.0.1, sym (buffers-without keeps b h) ∙ l.0.2), legal-without n d m h l.1)
+  legal-without n d m (Give p b ∷ h) l = ((l.0.0, l.0.1, sym (buffers-without keeps b h) ∙ l.0.2), legal-without n d m h l.1)
+  legal-without n d m (Draw p s ∷ h) l = ((l.0.0, l.0.1, l.0.2 ∙ draws-without keeps h), legal-without n d m h l.1)
   legal-without n d m (Push p r ∷ h) l = legal-without n d m h l.1
   legal-without n d m (Store p s ∷ h) l = ((l.0.0, l.0.1, sym (slots-without s h) ∙ l.0.2), legal-without n d m h l.1)
 
   -- and with pushes of its passes, wherever they stand
   legal-with : (n d m : ℕ) (h : List (Event R)) → ArePushesOf m h → IsLegal n d m (without_pushes h) → IsLegal n d m h
   legal-with n d m [] of l = tt
-  legal-with n d m (Take p b ∷ h) of l = ((l.0.0, l.0.1, buffers-without b h ∙ l.0.2), legal-with n d m h of l.1)
-  legal-with n d m (Give p b ∷ h) of l = ((l.0.0, l.0.1, buffers-without b h ∙ l.0.2), legal-with n d m h of l.1)
-  legal-with n d m (Draw p s ∷ h) of l = ((l.0.0, l.0.1, l.0.2 ∙ sym (draws-without h)), legal-with n d m h of l.1)
+  legal-with n d m (Take p b ∷ h) of l = ((l.0.0, l.0.1, buffers-without keeps b h ∙ l.0.2), legal-with n d m h of l.1)
+  legal-with n d m (Give p b ∷ h) of l = ((l.0.0, l.0.1, buffers-without keeps b h ∙ l.0.2), legal-with n d m h of l.1)
+  legal-with n d m (Draw p s ∷ h) of l = ((l.0.0, l.0.1, l.0.2 ∙ sym (draws-without keeps h)), legal-with n d m h of l.1)
   legal-with n d m (Push p r ∷ h) of l = (of.0, legal-with n d m h of.1 l)
   legal-with n d m (Store p s ∷ h) of l = ((l.0.0, l.0.1, slots-without s h ∙ l.0.2), legal-with n d m h of l.1)
 
   -- a history without pushes has none
   without-twice : (h : List (Event R)) → without_pushes (without_pushes h) ≡ without_pushes h
-  without-twice [] = refl
-  without-twice (Take p b ∷ h) = ap (λ k. Take p b ∷ k) (without-twice h)
-  without-twice (Give p b ∷ h) = ap (λ k. Give p b ∷ k) (without-twice h)
-  without-twice (Draw p s ∷ h) = ap (λ k. Draw p s ∷ k) (without-twice h)
-  without-twice (Push p r ∷ h) = without-twice h
-  without-twice (Store p s ∷ h) = ap (λ k. Store p s ∷ k) (without-twice h)
+  without-twice h = filter-within is_no_push is_no_push h (λ e is. is)
 
   pushes-without : (m : ℕ) (h : List (Event R)) → ArePushesOf m (without_pushes h)
   pushes-without m [] = tt
@@ -168,8 +139,8 @@ module _ {R : Type 0} where
 pub stand_anywhere : {B S R : Type 0} → PushesStandAnywhere B S R
 stand_anywhere {B} {S} {R} x s h k o same of = record {
   legal = legal-with n d m k of (subst (IsLegal n d m) (sym same) (legal-without n d m h o.legal));
-  of_pool = (o.of_pool.0, o.of_pool.1, buffer_part-without k ∙ ap buffer_part same ∙ sym (buffer_part-without h) ∙ o.of_pool.2);
-  of_row = draw_part-without k ∙ ap draw_part same ∙ sym (draw_part-without h) ∙ o.of_row;
+  of_pool = (o.of_pool.0, o.of_pool.1, buffer_part-without keeps k ∙ ap buffer_part same ∙ sym (buffer_part-without keeps h) ∙ o.of_pool.2);
+  of_row = draw_part-without keeps k ∙ ap draw_part same ∙ sym (draw_part-without keeps h) ∙ o.of_row;
   free_buffer = λ i lt word. at_buffer i ∙ o.free_buffer i lt word;
   held_buffer = λ i j v at lists. at_buffer i ∙ o.held_buffer i j v at lists;
   free_slot = λ i le. at_slot i ∙ o.free_slot i le;
@@ -186,7 +157,7 @@ stand_anywhere {B} {S} {R} x s h k o same of = record {
     m = x.passes
 
     at_buffer : (i : ℕ) → buffer_at i k ≡ buffer_at i h
-    at_buffer i = buffers-without i k ∙ ap (buffer_at i) same ∙ sym (buffers-without i h)
+    at_buffer i = buffers-without keeps i k ∙ ap (buffer_at i) same ∙ sym (buffers-without keeps i h)
 
     at_slot : (i : ℕ) → slot_at i k ≡ slot_at i h
     at_slot i = slots-without i k ∙ ap (slot_at i) same ∙ sym (slots-without i h)

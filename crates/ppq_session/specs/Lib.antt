@@ -49,3 +49,4 @@ pub mod SessionPass
 pub mod Sessions
 pub mod Shares
 pub mod State
+pub mod Stored

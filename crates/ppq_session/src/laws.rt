@@ -1,6 +1,7 @@
 //! The laws of a session's events.
 ghost use Rattle.ppq_session.specs.OneHistory.{StatesShowOne, PlaysAreSteps, EachStepShowsOne, AllStepsShowOne};
 ghost use Rattle.ppq_session.specs.Pushes.{PushesStandAnywhere, NothingIsPushed, GivenArePushed, PushedAreAdded};
+ghost use Rattle.ppq_session.specs.Stored.{StoresStandAnywhere, RunsAreStored};
 ghost use Rattle.ppq_pass.specs.declared.shared.PoolBuf.{PoolBuf};
 ghost use Rattle.ppq_pass.specs.ppq_array.declared.berth.DeviceBlock.{DeviceBlock};
 
@@ -52,4 +53,21 @@ pub fn accepted_are_pushed<S: Slot, R: Record>()
     ensures given { GivenArePushed S R S.shown }
     ensures added { PushedAreAdded S R S.shown }
     ensures anywhere { PushesStandAnywhere (PoolBuf R) (DeviceBlock S R) R }
+{}
+
+/// In that history each pass stores just the slots of its runs in blocks.
+///
+/// A pass draws slots by its seat of the row, and holds those that it drew: in its runs in blocks, or in its
+/// stash (`slots` of `IsKnown`, which each call of a pass keeps). Whatever legal history pool and row show,
+/// there is one with the same takes, gives, draws and pushes, in their order, in which the slots that a pass
+/// stored are those of its runs, each as often, told by their numbers (`stored`). Of the history of
+/// [`accepted_are_pushed`] it makes one that has both, the pushes and the stores.
+///
+/// Where stores stand behind their draws is not told: they may stand anywhere there (`anywhere`).
+///
+/// It does nothing: its clauses are for the proof of whoever calls it, and for a reader.
+#[inline]
+pub fn runs_are_stored<S: Slot, R: Record>()
+    ensures stored { RunsAreStored S R S.shown }
+    ensures anywhere { StoresStandAnywhere (PoolBuf R) (DeviceBlock S R) R }
 {}

@@ -17,7 +17,8 @@
 //!
 //! Nothing is said of the order in which passes run: the contracts add up what each of them holds. In
 //! whatever order their steps come, row and pool show one legal history of `ppq_core` together
-//! ([`sessions_are_histories`]).
+//! ([`sessions_are_histories`]), in which each pass pushed what it accepted ([`accepted_are_pushed`]) and
+//! stored what its runs in blocks have ([`runs_are_stored`]).
 #![tactic(auto)]
 
 mod answering;
@@ -69,7 +70,7 @@ pub use fault::{BeginFault, SessionEnd};
 pub use front::Front;
 pub use front_laws::{high_records_stand_back, passes_stand_back};
 pub use going::{are_going, limited_are_going};
-pub use laws::{accepted_are_pushed, sessions_are_histories};
+pub use laws::{accepted_are_pushed, runs_are_stored, sessions_are_histories};
 pub use limit_pass::LimitPass;
 pub use limit_session::LimitSession;
 pub use line::Line;
