@@ -4,9 +4,11 @@
     tools/build.py PROGRAM..
 
 PROGRAM is the crate of a program. A crate is proved once those that it uses are. That with the longest chain of others behind it
-gets all processors, and others that wait for nobody are proved beside it with what it leaves. Two `rt` that work in one folder of a crate wait for each other, and each works in the folders of all crates below; so each crate is proved in one of
-some copies of the sources, and then taken over here, which takes a second. Standard error says which are done. It ends with 125 if
-a crate is not proved or a program not built, and with 130 if it is interrupted; what was proved until then stays.
+gets all processors, and others that wait for nobody are proved beside it with what it leaves. Two `rt` that work in one folder of a
+crate wait for each other, and each works in the folders of all crates below; so each crate is proved in one of some copies of the
+sources, and then taken over here, which takes a second. A program is linked here, once its crates are proved. Standard error says
+which are done. It ends with 125 if a crate is not proved or a program not built, and with 130 if it is interrupted; what was proved
+until then stays.
 """
 import collections
 import os
@@ -142,6 +144,13 @@ class Build:
             elif len(self.running) <= beside:
                 self.start(name, ["nice", "-n", "10", "rt", "lib", "--jobs", "1"], self.copy())
 
+    def start_program(self, beside):
+        """Starts the link of a program whose crates are all here, with up to so many crates beside it, and one after the other."""
+        ready = [it for it in self.programs if it not in self.done and all(below in self.done for below in self.lists[it])]
+        if ready and not any(it in self.running for it in self.programs) and len(self.running) <= beside:
+            self.say(f"{ready[0]} is linked")
+            self.start(ready[0], ["rt", "run"])
+
     def take_over(self, name):
         """Has a crate that was proved in a copy here too."""
         self.start(name, ["rt", "lib"])
@@ -149,38 +158,41 @@ class Build:
             self.give_up(name)
         del self.running[name]
 
+    def end_crate(self, name, process, top):
+        """Takes over a crate whose proof ended, and says so."""
+        if process.returncode != 0:
+            self.give_up(name)
+        self.free.append(top)
+        self.take_over(name)
+        self.done.append(name)
+        self.say(f"{len([it for it in self.done if it in self.names])} of {len(self.names)} crates are proved, {name} the last")
+
+    def end_program(self, name, process):
+        """Sees what a program did that was linked: without words it prints its usage and ends with 2, which shows that it was built."""
+        usage, said = f"{name.replace('_', '-')}: usage: ".encode(), self.said(name).splitlines()[-1:]
+        if process.returncode != 2 or not said or not said[0].startswith(usage):
+            self.give_up(name)
+        self.done.append(name)
+
     def wait(self):
-        """Waits until a crate is proved, and says so."""
+        """Waits until a crate is proved or a program linked."""
         while not any(process.poll() is not None for process, _ in self.running.values()):
             time.sleep(0.2)
             self.say()
         for name in [it for it, (process, _) in self.running.items() if process.poll() is not None]:
             process, top = self.running.pop(name)
-            if process.returncode != 0:
-                self.give_up(name)
-            self.free.append(top)
-            self.take_over(name)
-            self.done.append(name)
-            self.say(f"{len(self.done)} of {len(self.names)} crates are proved, {name} the last")
-
-    def link(self, name):
-        """Links a program and runs it. Without words it prints its usage and ends with 2, which shows that it was built."""
-        self.say(f"all is proved; {name} is linked")
-        self.start(name, ["rt", "run"])
-        status = self.running[name][0].wait()
-        del self.running[name]
-        usage = f"{name.replace('_', '-')}: usage: ".encode()
-        if status != 2 or not self.said(name).splitlines()[-1:] or not self.said(name).splitlines()[-1].startswith(usage):
-            self.give_up(name)
+            if name in self.programs:
+                self.end_program(name, process)
+            else:
+                self.end_crate(name, process, top)
 
     def run(self):
         self.say(self.text)
         jobs, beside = lanes()
-        while len(self.done) < len(self.names):
+        while len(self.done) < len(self.names) + len(self.programs):
             self.start_ready(jobs, beside)
+            self.start_program(beside)
             self.wait()
-        for name in self.programs:
-            self.link(name)
         for name in self.programs:
             os.utime(CRATES / name / "out" / name)
         os.write(2, b"\r\033[K" * os.isatty(2))

@@ -73,7 +73,13 @@ class Build(unittest.TestCase):
         for name, below in (("app", "high"), ("other_app", "low")):
             self.assertLess(ended[below, "here"], begun[name, "here"])
         self.assertIn("begin app here run", calls)
-        self.assertRegex(said, "4 of 4 crates are proved, high the last, 0 min\nppq: all is proved; app is linked")
+        self.assertRegex(said, "4 of 4 crates are proved, high the last, 0 min\nppq: app is linked, 0 min")
+
+    @unittest.skipIf(len(os.sched_getaffinity(0)) < 3, "two processors")
+    def test_links_a_program_once_its_crates_are_proved(self):
+        self.call()
+        calls = self.calls()
+        self.assertLess(calls.index("begin other_app here run"), calls.index("end high here"))
 
     @unittest.skipIf(len(os.sched_getaffinity(0)) < 2, "one processor")
     def test_proves_crates_that_wait_for_nobody_side_by_side(self):
