@@ -145,11 +145,11 @@ class Build:
                 self.start(name, ["nice", "-n", "10", "rt", "lib", "--jobs", "1"], self.copy())
 
     def start_program(self, beside):
-        """Starts the link of a program whose crates are all here, with up to so many crates beside it, and one after the other."""
+        """Starts the link of a program whose crates are all here, beside up to so many others. No two programs are linked at once."""
         ready = [it for it in self.programs if it not in self.done and all(below in self.done for below in self.lists[it])]
         if ready and not any(it in self.running for it in self.programs) and len(self.running) <= beside:
             self.say(f"{ready[0]} is linked")
-            self.start(ready[0], ["rt", "run"])
+            self.start(ready[0], ["nice", "-n", "10", "rt", "run"])
 
     def take_over(self, name):
         """Has a crate that was proved in a copy here too."""
@@ -165,7 +165,7 @@ class Build:
         self.free.append(top)
         self.take_over(name)
         self.done.append(name)
-        self.say(f"{len([it for it in self.done if it in self.names])} of {len(self.names)} crates are proved, {name} the last")
+        self.say(f"{sum(it in self.names for it in self.done)} of {len(self.names)} crates are proved, {name} the last")
 
     def end_program(self, name, process):
         """Sees what a program did that was linked: without words it prints its usage and ends with 2, which shows that it was built."""

@@ -75,7 +75,7 @@ class Build(unittest.TestCase):
         self.assertIn("begin app here run", calls)
         self.assertRegex(said, "4 of 4 crates are proved, high the last, 0 min\nppq: app is linked, 0 min")
 
-    @unittest.skipIf(len(os.sched_getaffinity(0)) < 3, "two processors")
+    @unittest.skipIf(len(os.sched_getaffinity(0)) < 2, "one processor")
     def test_links_a_program_once_its_crates_are_proved(self):
         self.call()
         calls = self.calls()
